@@ -1,0 +1,9 @@
+pub mod Lists
+pub mod Numbers
+pub mod Pieces
+pub mod Vectors
+pub mod Records
+pub mod Messages
+pub mod Round
+pub mod Answers
+pub mod Unique

@@ -1,0 +1,112 @@
+-- Any two outcomes that meet a public call's statement are equal: a theorem for each call, about the very clauses of its contract.
+-- Assumes nothing.
+use mathlib.Core.Path.{_≡_, sym, ap, _∙_}
+use mathlib.Core.List.{List}
+use Prim.Native.Nat.{ℕ}
+use denote.Ref.{now}
+use Rattle.notes.specs.Message.{Writing}
+use Rattle.notes.specs.declared.message.Written.{Written}
+use Rattle.notes.proofs.Answers.{checked-known, written-known}
+use Rattle.notes.proofs.index.ServerId.is_of.Reads as is-of
+use Rattle.notes.proofs.vector.Vector.zero.Reads as zero
+use Rattle.notes.proofs.vector.Vector.at.Reads as at
+use Rattle.notes.proofs.vector.Vector.raised.Reads as raised
+use Rattle.notes.proofs.vector.Vector.maximum.Reads as maximum
+use Rattle.notes.proofs.vector.Vector.sum.Reads as sum
+use Rattle.notes.proofs.vector.Vector.is_behind.Reads as is-behind
+use Rattle.notes.proofs.vector.Vector.zero_from.Reads as zero-from
+use Rattle.notes.proofs.record.Record.from_bytes.Reads as from-bytes
+use Rattle.notes.proofs.record.Record.to_bytes.Reads as to-bytes
+use Rattle.notes.proofs.record.Record.number.Reads as number
+use Rattle.notes.proofs.record.Record.well_formed.Reads as well-formed
+use Rattle.notes.proofs.record.Record.beats.Reads as beats
+use Rattle.notes.proofs.message.check.Reads as check
+use Rattle.notes.proofs.message.record_part.Reads as record-part
+use Rattle.notes.proofs.message.write.Reads as write
+use Rattle.notes.proofs.session.Session.new.Reads as new
+use Rattle.notes.proofs.session.Session.read_carries.Reads as read-carries
+use Rattle.notes.proofs.session.Session.write_carries.Reads as write-carries
+use Rattle.notes.proofs.session.Session.after_read.Reads as after-read
+use Rattle.notes.proofs.session.Session.after_write.Reads as after-write
+
+-- for the same lifetimes and arguments, `seen` of the result and of the parameters at exit is one
+abbrev pub One {ℓ κ μ ν} :
+    {K : Type ℓ} {A : K → Type κ} {R : K → Type μ} {S : K → Type ν} {O : Type 0}
+    → ((k : K) → A k → R k → S k → Type 0)
+    → ((k : K) → R k → S k → O)
+    → Type (ℓ ⊔ κ ⊔ μ ⊔ ν)
+One {K} {A} {R} {S} post seen = (k : K) (a : A k) (x y : R k) (s t : S k) → post k a x s → post k a y t → seen k x s ≡ seen k y t
+
+-- a call whose contract is an equation of its result
+equal : {A : Type 0} {x y d : A} → x ≡ d → y ≡ d → x ≡ y
+equal p q = p ∙ sym q
+
+pub is-of-one : One is-of.Post (λ k r s. r)
+is-of-one k a x y s t p q = equal p q
+
+pub zero-one : One zero.Post (λ k r s. r)
+zero-one k a x y s t p q = equal p q
+
+pub at-one : One at.Post (λ k r s. r)
+at-one k a x y s t p q = equal p q
+
+pub raised-one : One raised.Post (λ k r s. r)
+raised-one k a x y s t p q = equal p q
+
+pub maximum-one : One maximum.Post (λ k r s. r)
+maximum-one k a x y s t p q = equal p q
+
+pub sum-one : One sum.Post (λ k r s. r)
+sum-one k a x y s t p q = equal p q
+
+pub is-behind-one : One is-behind.Post (λ k r s. r)
+is-behind-one k a x y s t p q = equal p q
+
+pub zero-from-one : One zero-from.Post (λ k r s. r)
+zero-from-one k a x y s t p q = equal p q
+
+pub from-bytes-one : One from-bytes.Post (λ k r s. r)
+from-bytes-one k a x y s t p q = equal p q
+
+pub to-bytes-one : One to-bytes.Post (λ k r s. r)
+to-bytes-one k a x y s t p q = equal p q
+
+pub number-one : One number.Post (λ k r s. r)
+number-one k a x y s t p q = equal p q
+
+pub well-formed-one : One well-formed.Post (λ k r s. r)
+well-formed-one k a x y s t p q = equal p q
+
+pub beats-one : One beats.Post (λ k r s. r)
+beats-one k a x y s t p q = equal p q
+
+pub new-one : One new.Post (λ k r s. r)
+new-one k a x y s t p q = equal p q
+
+pub read-carries-one : One read-carries.Post (λ k r s. r)
+read-carries-one k a x y s t p q = equal p q
+
+pub write-carries-one : One write-carries.Post (λ k r s. r)
+write-carries-one k a x y s t p q = equal p q
+
+pub after-read-one : One after-read.Post (λ k r s. r)
+after-read-one k a x y s t p q = equal p q
+
+pub after-write-one : One after-write.Post (λ k r s. r)
+after-write-one k a x y s t p q = equal p q
+
+-- a check is known by its number and values
+pub check-one : One check.Post (λ k r s. r)
+check-one k a x y s t p q = checked-known x y (equal p q)
+
+-- a part is known by its bytes
+pub record-part-one : One record-part.Post (λ k r s. now r)
+record-part-one k a x y s t p q = equal p q
+
+-- a writer by its number and values, and by the output's bytes
+pub write-one : One {O = Written × List ℕ} write.Post (λ k r s. (r, now (s .1 .1 .1 .0)))
+write-one k a x y s t p q =
+    λ i. (
+      written-known x y (ap (λ (w : Writing). w .reply) (equal p q)) i,
+      ap (λ (w : Writing). w .output) (equal p q) i,
+    )

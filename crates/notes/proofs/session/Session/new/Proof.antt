@@ -1,0 +1,11 @@
+-- `Session::new` meets its contract: it begins at zero.
+-- Assumes nothing.
+use borrow.Author.Needs.{needs}
+use Rattle.notes.proofs.session.Session.new.Statement.{statement}
+use Rattle.notes.proofs.session.Session.new.Tie as tie
+
+returns : tie.Need-returns
+returns c = rw (c .zero .ensures)
+
+pub new-spec : {M : Type 1} → statement M
+new-spec = tie.close (tie.spec (search needs) returns)

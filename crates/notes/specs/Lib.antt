@@ -1,0 +1,9 @@
+pub mod Lists
+pub mod Bytes
+pub mod Reply
+pub mod Index
+pub mod Vector
+pub mod Record
+pub mod Message
+pub mod Session
+pub mod Raw

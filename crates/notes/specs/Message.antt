@@ -1,0 +1,150 @@
+-- Update messages: a header of eight bytes, then the sender's history in order.
+-- Assumes nothing.
+use Prim.Native.Nat.{ℕ, _+_, _*_, _/_, _%_}
+use mathlib.Core.Bool.{Bool, _&&_, not, cond}
+use mathlib.Core.List.{List, [], _∷_, _++_}
+use mathlib.Core.Option.{Option, none, some}
+use lib.Dec.{ltb, leb, eqb}
+use lib.ListN.{length, getD, drop}
+use Rattle.notes.specs.Lists.{every, same}
+use Rattle.notes.specs.Bytes.{Field, field, toBytes, pieces}
+use Rattle.notes.specs.Reply.{Reply, done, refused, given, first}
+use Rattle.notes.specs.Index.{serverOk}
+use Rattle.notes.specs.Record.{recordSize, wellFormed, records, recordBytes}
+use Rattle.notes.specs.declared.index.ServerId.{ServerId}
+use Rattle.notes.specs.declared.record.Record.{Record}
+use Rattle.notes.specs.declared.message.Header.{Header}
+use Rattle.notes.specs.declared.message.Refusal.{Refusal}
+use Rattle.notes.specs.declared.message.Refusal.the-variants.{OutOfRange, Malformed, TooShort}
+use Rattle.notes.specs.declared.message.Checked.{Checked}
+use Rattle.notes.specs.declared.message.Checked.the-variants as checked
+use Rattle.notes.specs.declared.message.Written.{Written}
+use Rattle.notes.specs.declared.message.Written.the-variants as written
+
+-- ---- the layout
+
+abbrev pub headerSize : ℕ
+headerSize = 8
+
+abbrev pub nField : Field
+nField = record { at = 0; size = 1 }
+
+abbrev pub senderField : Field
+senderField = record { at = 1; size = 1 }
+
+abbrev pub countField : Field
+countField = record { at = 2; size = 2 }
+
+abbrev pub offsetField : Field
+offsetField = record { at = 4; size = 2 }
+
+abbrev pub totalField : Field
+totalField = record { at = 6; size = 2 }
+
+-- the greatest count of writes
+abbrev pub historyMost : ℕ
+historyMost = 256
+
+-- the length of a message of so many writes
+abbrev pub messageSize : ℕ → ℕ
+messageSize count = headerSize + recordSize * count
+
+unfoldable pub headerOf : ℕ → ServerId → ℕ → List ℕ
+headerOf n sender count =
+    n
+    ∷ sender .0
+    ∷ toBytes (countField .size) count
+    ++ toBytes (offsetField .size) headerSize
+    ++ toBytes (totalField .size) (messageSize count)
+
+unfoldable pub messageOf : ℕ → ServerId → List Record → List ℕ
+messageOf n sender rs = headerOf n sender (length rs) ++ recordBytes rs
+
+-- ---- what is right
+
+-- the bytes are whole records, and the records that they hold
+abbrev pub whole : List ℕ → Bool
+whole b = eqb (length b % recordSize) 0
+
+abbrev pub recordsIn : List ℕ → List Record
+recordsIn b = records (length b / recordSize) b
+
+-- at most 256 records, each well formed
+unfoldable pub recordsOk : ℕ → List Record → Bool
+recordsOk n rs = leb (length rs) historyMost && every (wellFormed n) rs
+
+-- what a message says
+abbrev pub messageN : List ℕ → ℕ
+messageN m = field nField m
+
+abbrev pub messageSender : List ℕ → ServerId
+messageSender m = record { 0 = field senderField m }
+
+abbrev pub body : List ℕ → List ℕ
+body m = drop headerSize m
+
+abbrev pub brought : List ℕ → List Record
+brought m = recordsIn (body m)
+
+-- a message is right if its N, sender and records are, and it is the message that they give
+unfoldable pub messageOk : List ℕ → Bool
+messageOk m =
+    serverOk (messageN m) (messageSender m)
+    && recordsOk (messageN m) (brought m)
+    && same m (messageOf (messageN m) (messageSender m) (brought m))
+
+-- ---- the answers
+
+abbrev pub refusalNumber : Refusal → ℕ
+refusalNumber OutOfRange = 1
+refusalNumber Malformed = 6
+refusalNumber TooShort = 9
+
+-- what a message says of itself: N, sender and count
+abbrev pub headerSaid : List ℕ → Header
+headerSaid m = record { n = messageN m; sender = messageSender m; count = length (brought m) }
+
+abbrev pub headerValues : Header → List ℕ
+headerValues h = h .n ∷ h .sender .0 ∷ h .count ∷ []
+
+-- a check answers what the message says
+abbrev pub checkedReply : Checked → Reply
+checkedReply (checked.Update h) = done (headerValues h)
+checkedReply (checked.Refused r) = refused (refusalNumber r)
+
+unfoldable pub check : List ℕ → Reply
+check m = cond (messageOk m) (done (headerValues (headerSaid m))) (refused (refusalNumber Malformed))
+
+-- the bytes of record k of a message, or no bytes where it has none
+unfoldable pub recordPart : List ℕ → ℕ → List ℕ
+recordPart m k = getD (pieces recordSize (length (body m) / recordSize) (body m)) k []
+
+-- a writer answers the length of the message
+abbrev pub writtenReply : Written → Reply
+writtenReply (written.Bytes k) = done (k ∷ [])
+writtenReply (written.Refused r) = refused (refusalNumber r)
+
+-- what writing from N, sender and record bytes refuses, in order
+unfoldable pub writeRefusal : ℕ → ServerId → List ℕ → List ℕ → Option Refusal
+writeRefusal n sender b out =
+    first
+    (given (not (serverOk n sender)) OutOfRange
+    ∷ given (not (whole b && recordsOk n (recordsIn b))) Malformed
+    ∷ given (ltb (length out) (messageSize (length (recordsIn b)))) TooShort
+    ∷ [])
+
+-- what a writer answers and leaves in the output
+pub record Writing : Type 0 where
+  pub reply : Reply
+  pub output : List ℕ
+
+abbrev pub writing : Written → List ℕ → Writing
+writing w out = record { reply = writtenReply w; output = out }
+
+-- a refusal changes nothing, and a message only its own bytes of the output
+abbrev pub wrote : Option Refusal → List ℕ → List ℕ → Writing
+wrote (some r) m out = record { reply = refused (refusalNumber r); output = out }
+wrote none m out = record { reply = done (length m ∷ []); output = m ++ drop (length m) out }
+
+unfoldable pub write : ℕ → ServerId → List ℕ → List ℕ → Writing
+write n sender b out = wrote (writeRefusal n sender b out) (messageOf n sender (recordsIn b)) out
