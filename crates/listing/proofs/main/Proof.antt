@@ -1,0 +1,42 @@
+-- `listing::main` is safe: the text that it writes lies within the output.
+-- Assumes nothing.
+use Prim.Native.Nat.{_≤_}
+use mathlib.Core.Path.{sym, ap, _∙_}
+use lib.ListN.{length}
+use lib.Seq.{length-take-le}
+use Rattle.text.specs.Listing.{printed}
+use Rattle.text.specs.declared.listing.Listed.{Listed}
+use Rattle.text.proofs.Lines.{listed-within}
+use borrow.Author.Needs.{needs}
+use Rattle.listing.proofs.main.Statement.{statement}
+use Rattle.listing.proofs.main.Tie as tie
+
+-- where a text was listed, its end
+within : (c : tie.After-known-told) → c .before .listed .given .0 .0 ≤ length (c .before .before .before .before .list .last .1 .0)
+within c =
+    let said = sym (ap (λ (l : Listed). printed l (c .before .before .before .before .list .last .1 .0)) (c .before .listed .given .1)) in
+    listed-within _ _ (c .before .listed .given .0 .0) (c .before .before .before .before .list .last .1 .0) (said ∙ c .before .before .before .before .list .ensures)
+
+array-share-prefix-out : tie.Need-array-share-prefix-out
+array-share-prefix-out c = within c
+
+slice-aggregate-write-all : tie.Need-slice-aggregate-write-all
+slice-aggregate-write-all c = sym (length-take-le (c .before .before .listed .given .0 .0) (c .before .before .before .before .before .list .last .1 .0) (within (c .before)))
+
+pub main-spec : {M : Type 1} → statement M
+main-spec =
+    tie.close
+    (tie.spec
+    (search needs)
+    (search needs)
+    (search needs)
+    (search needs)
+    (search needs)
+    (search needs)
+    (search needs)
+    array-share-prefix-out
+    slice-aggregate-write-all
+    (search needs)
+    (search needs)
+    (search needs)
+    (search needs))

@@ -1,0 +1,5 @@
+pub mod Decimals
+pub mod Texts
+pub mod Lines
+pub mod Unique
+pub mod Example

@@ -1,0 +1,36 @@
+-- `listing::put_record` meets its contract: the line of the numbers up to T's n positions.
+-- Assumes nothing.
+use mathlib.Core.Path.{_≡_, ap}
+use native.Mathlib.Omega.{arith}
+use lib.ListN.{length, length-take}
+use Rattle.text.specs.Listing.{line}
+use Rattle.text.proofs.Texts.{same-text}
+use Rattle.text.proofs.Lines.{numbers-taken}
+use borrow.Author.Needs.{needs}
+use Rattle.text.proofs.listing.put_record.Statement.{statement}
+use Rattle.text.proofs.listing.put_record.Tie as tie
+
+slice-aggregate-put-line : tie.Need-slice-aggregate-put-line
+slice-aggregate-put-line c =
+    let l : length (c .before .before .numbers .result) ≡ 14 = search needs in simp length-take (omega arith)
+
+put-line-requires : tie.Need-put-line-requires
+put-line-requires c κs =
+    let l : length (c .before .before .numbers .result) ≡ 14 = search needs in (simp length-take (omega arith), simp length-take (omega arith))
+
+returns : tie.Need-returns
+returns c =
+    let a = c .before .before .before .before .before .before .before .args in
+    same-text (rw (c .before .before .before .before .before .numbers .ensures) (ap line (numbers-taken (a .n) (a .r) (c .before .before .before .before .before .before .before .pre .0)))) (c .before .before .put-line .ensures)
+
+pub put-record-spec : {M : Type 1} → statement M
+put-record-spec =
+    tie.close
+    (tie.spec
+    (search needs)
+    (search needs)
+    (search needs)
+    slice-aggregate-put-line
+    put-line-requires
+    (search needs)
+    returns)

@@ -1,0 +1,3 @@
+// Text as bytes: what the programs print.
+pub mod listing;
+mod print;
