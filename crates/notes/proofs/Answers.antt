@@ -1,13 +1,15 @@
 -- An answer is known by its number and values.
 -- Assumes nothing.
-use Prim.Native.Nat.{ℕ}
+use Prim.Native.Nat.{ℕ, _≤_}
 use mathlib.Core.Bool.{Bool, true, false, cond}
 use mathlib.Core.List.{List}
+use mathlib.Core.Option.{Option, none, some}
 use mathlib.Core.Path.{_≡_, refl, sym, ap, _∙_}
+use native.Mathlib.Omega.{arith}
 use lib.Dec.{eqb}
-use lib.ListN.{getD}
-use Rattle.notes.specs.Reply.{Reply, done, refused}
-use Rattle.notes.specs.Message.{refusalNumber, headerSaid, headerValues, messageOk, checkedReply, check, writtenReply}
+use lib.ListN.{length, getD, drop, length-append}
+use Rattle.notes.specs.Reply.{Reply, done, refused, Filled}
+use Rattle.notes.specs.Message.{refusalNumber, headerSaid, headerValues, messageOk, checkedReply, check, writtenReply, filled, fillUnless}
 use Rattle.notes.specs.declared.message.Header.{Header}
 use Rattle.notes.specs.declared.message.Refusal.{Refusal}
 use Rattle.notes.specs.declared.message.Refusal.the-variants.{OutOfRange, Malformed, TooShort}
@@ -82,3 +84,19 @@ refused-wrong m r e = go (messageOk m) refl (found m (checked.Refused r) e)
         → messageOk m ≡ false
     go true q e = cc
     go false q e = q
+
+-- ---- the bytes that filled an output lie within it
+never : (r : Refusal) → _≡_ {A = ℕ} 0 (refusalNumber r) → ⊥
+never OutOfRange e = omega arith
+never Malformed e = omega arith
+never TooShort e = omega arith
+
+pub filled-within :
+    (r : Option Refusal) (bytes out : List ℕ) (k : ℕ) (after : List ℕ)
+    → filled (written.Bytes k) after ≡ fillUnless r bytes out
+    → k ≤ length after
+filled-within (some r) bytes out k after e = absurd (never r (ap (λ (f : Filled). f .reply .number) e))
+filled-within none bytes out k after e =
+    let l = ap (λ (f : Filled). getD (f .reply .values) 0 0) e in
+    let o = ap (λ (f : Filled). length (f .output)) e in
+    omega (arith, l, o, length-append bytes (drop (length bytes) out))

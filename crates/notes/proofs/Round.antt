@@ -11,7 +11,7 @@ use lib.ListN.{length, drop, length-drop}
 use Rattle.notes.specs.Index.{serverOk}
 use Rattle.notes.specs.Reply.{done, given, first}
 use Rattle.notes.specs.Record.{recordSize, records, recordBytes}
-use Rattle.notes.specs.Message.{messageSize, messageOf, recordsIn, recordsOk, messageN, messageSender, body, brought, messageOk, check, whole, wrote, write, writeRefusal}
+use Rattle.notes.specs.Message.{messageSize, messageOf, recordsIn, recordsOk, messageN, messageSender, body, brought, messageOk, check, whole, fillUnless, write, writeRefusal}
 use Rattle.notes.specs.declared.message.Refusal.the-variants.{OutOfRange, Malformed, TooShort}
 use Rattle.notes.specs.declared.index.ServerId.{ServerId}
 use Rattle.notes.specs.declared.record.Record.{Record}
@@ -42,7 +42,7 @@ module _ (n : ℕ) (s : ServerId) (rs : List Record) (fit : Each Fits rs) where
 -- ---- for every N, sender and record bytes that the app's writer takes
 taken :
     (a b c : Bool) (m out : List ℕ)
-    → wrote (first (given (not a) OutOfRange ∷ given (not b) Malformed ∷ given c TooShort ∷ [])) m out .reply .number ≡ 0
+    → fillUnless (first (given (not a) OutOfRange ∷ given (not b) Malformed ∷ given c TooShort ∷ [])) m out .reply .number ≡ 0
     → (a ≡ true) × (b ≡ true) × (c ≡ false)
 taken true true false m out e = (refl, refl, refl)
 taken true true true m out e = (refl, refl, cc)

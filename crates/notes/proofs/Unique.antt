@@ -4,10 +4,11 @@ use mathlib.Core.Path.{_≡_, sym, ap, _∙_}
 use mathlib.Core.List.{List}
 use Prim.Native.Nat.{ℕ}
 use denote.Ref.{now}
-use Rattle.notes.specs.Message.{Writing}
+use Rattle.notes.specs.Reply.{Filled}
+use Rattle.notes.specs.Message.{filled}
 use Rattle.notes.specs.declared.message.Written.{Written}
 use Rattle.notes.proofs.Answers.{checked-known, written-known}
-use Rattle.notes.proofs.index.ServerId.is_of.Reads as is-of
+use Rattle.notes.proofs.index.ServerId.is_one_of.Reads as is-one-of
 use Rattle.notes.proofs.vector.Vector.zero.Reads as zero
 use Rattle.notes.proofs.vector.Vector.at.Reads as at
 use Rattle.notes.proofs.vector.Vector.raised.Reads as raised
@@ -41,8 +42,8 @@ One {K} {A} {R} {S} post seen = (k : K) (a : A k) (x y : R k) (s t : S k) → po
 equal : {A : Type 0} {x y d : A} → x ≡ d → y ≡ d → x ≡ y
 equal p q = p ∙ sym q
 
-pub is-of-one : One is-of.Post (λ k r s. r)
-is-of-one k a x y s t p q = equal p q
+pub is-one-of-one : One is-one-of.Post (λ k r s. r)
+is-one-of-one k a x y s t p q = equal p q
 
 pub zero-one : One zero.Post (λ k r s. r)
 zero-one k a x y s t p q = equal p q
@@ -103,10 +104,10 @@ check-one k a x y s t p q = checked-known x y (equal p q)
 pub record-part-one : One record-part.Post (λ k r s. now r)
 record-part-one k a x y s t p q = equal p q
 
--- a writer by its number and values, and by the output's bytes
+-- a filled output by its number and values, and by its bytes
+pub filled-one : (x y : Written) (o u : List ℕ) → filled x o ≡ filled y u → _≡_ {A = Written × List ℕ} (x, o) (y, u)
+filled-one x y o u e =
+    λ i. (written-known x y (ap (λ (f : Filled). f .reply) e) i, ap (λ (f : Filled). f .output) e i)
+
 pub write-one : One {O = Written × List ℕ} write.Post (λ k r s. (r, now (s .1 .1 .1 .0)))
-write-one k a x y s t p q =
-    λ i. (
-      written-known x y (ap (λ (w : Writing). w .reply) (equal p q)) i,
-      ap (λ (w : Writing). w .output) (equal p q) i,
-    )
+write-one k a x y s t p q = filled-one x y _ _ (equal p q)

@@ -3,12 +3,12 @@
 use Prim.Native.Nat.{ℕ, _+_, _*_, _/_, _%_}
 use mathlib.Core.Bool.{Bool, _&&_, not, cond}
 use mathlib.Core.List.{List, [], _∷_, _++_}
-use mathlib.Core.Option.{Option, none, some}
+use mathlib.Core.Option.{Option, Option·map}
 use lib.Dec.{ltb, leb, eqb}
 use lib.ListN.{length, getD, drop}
 use Rattle.notes.specs.Lists.{every, same}
 use Rattle.notes.specs.Bytes.{Field, field, toBytes, pieces}
-use Rattle.notes.specs.Reply.{Reply, done, refused, given, first}
+use Rattle.notes.specs.Reply.{Reply, done, refused, Filled, given, first, fill}
 use Rattle.notes.specs.Index.{serverOk}
 use Rattle.notes.specs.Record.{recordSize, wellFormed, records, recordBytes}
 use Rattle.notes.specs.declared.index.ServerId.{ServerId}
@@ -100,6 +100,9 @@ refusalNumber OutOfRange = 1
 refusalNumber Malformed = 6
 refusalNumber TooShort = 9
 
+abbrev pub refusalReply : Refusal → Reply
+refusalReply r = refused (refusalNumber r)
+
 -- what a message says of itself: N, sender and count
 abbrev pub headerSaid : List ℕ → Header
 headerSaid m = record { n = messageN m; sender = messageSender m; count = length (brought m) }
@@ -110,19 +113,25 @@ headerValues h = h .n ∷ h .sender .0 ∷ h .count ∷ []
 -- a check answers what the message says
 abbrev pub checkedReply : Checked → Reply
 checkedReply (checked.Update h) = done (headerValues h)
-checkedReply (checked.Refused r) = refused (refusalNumber r)
+checkedReply (checked.Refused r) = refusalReply r
 
 unfoldable pub check : List ℕ → Reply
-check m = cond (messageOk m) (done (headerValues (headerSaid m))) (refused (refusalNumber Malformed))
+check m = cond (messageOk m) (done (headerValues (headerSaid m))) (refusalReply Malformed)
 
 -- the bytes of record k of a message, or no bytes where it has none
 unfoldable pub recordPart : List ℕ → ℕ → List ℕ
 recordPart m k = getD (pieces recordSize (length (body m) / recordSize) (body m)) k []
 
--- a writer answers the length of the message
+-- a writer answers how many bytes it filled
 abbrev pub writtenReply : Written → Reply
 writtenReply (written.Bytes k) = done (k ∷ [])
-writtenReply (written.Refused r) = refused (refusalNumber r)
+writtenReply (written.Refused r) = refusalReply r
+
+abbrev pub filled : Written → List ℕ → Filled
+filled w out = record { reply = writtenReply w; output = out }
+
+abbrev pub fillUnless : Option Refusal → List ℕ → List ℕ → Filled
+fillUnless r bytes out = fill (Option·map refusalReply r) bytes out
 
 -- what writing from N, sender and record bytes refuses, in order
 unfoldable pub writeRefusal : ℕ → ServerId → List ℕ → List ℕ → Option Refusal
@@ -133,18 +142,6 @@ writeRefusal n sender b out =
     ∷ given (ltb (length out) (messageSize (length (recordsIn b)))) TooShort
     ∷ [])
 
--- what a writer answers and leaves in the output
-pub record Writing : Type 0 where
-  pub reply : Reply
-  pub output : List ℕ
-
-abbrev pub writing : Written → List ℕ → Writing
-writing w out = record { reply = writtenReply w; output = out }
-
--- a refusal changes nothing, and a message only its own bytes of the output
-abbrev pub wrote : Option Refusal → List ℕ → List ℕ → Writing
-wrote (some r) m out = record { reply = refused (refusalNumber r); output = out }
-wrote none m out = record { reply = done (length m ∷ []); output = m ++ drop (length m) out }
-
-unfoldable pub write : ℕ → ServerId → List ℕ → List ℕ → Writing
-write n sender b out = wrote (writeRefusal n sender b out) (messageOf n sender (recordsIn b)) out
+-- the message of these records, into an output
+unfoldable pub write : ℕ → ServerId → List ℕ → List ℕ → Filled
+write n sender b out = fillUnless (writeRefusal n sender b out) (messageOf n sender (recordsIn b)) out

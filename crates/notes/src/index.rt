@@ -13,7 +13,7 @@ impl ServerId {
     pub const MOST: u8 = 8;
 
     // Whether n is 1 to 8, and this server's number is below it.
-    pub fn is_of(self, n: u8) -> bool
+    pub fn is_one_of(self, n: u8) -> bool
         ensures { λ r. ⌜ r ≡ serverOk n self ⌝ }
     {
         if n < 1 {

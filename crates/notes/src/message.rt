@@ -3,7 +3,7 @@ ghost use mathlib.Core.Path.{_≡_};
 ghost use Prim.Native.Nat.{_≤_};
 ghost use mathlib.Core.Bool.{_&&_};
 ghost use Rattle.notes.specs.Index.{servers};
-ghost use Rattle.notes.specs.Message.{checkedReply, check as checkOf, recordPart, whole, recordsIn, recordsOk, writing, write as writeOf};
+ghost use Rattle.notes.specs.Message.{checkedReply, check as checkOf, recordPart, whole, recordsIn, recordsOk, filled, write as writeOf};
 use crate::index::ServerId;
 use crate::raw;
 use crate::record::Record;
@@ -27,7 +27,7 @@ pub enum Checked {
     Refused(Refusal),
 }
 
-// What writing a message gives: its length, or a refusal.
+// What filling an output gives: how many bytes, or a refusal.
 pub enum Written {
     Bytes(usize),
     Refused(Refusal),
@@ -102,9 +102,9 @@ fn records_ok(b: &[u8], n: u8) -> bool
 
 // Writes the message of these records at the start of out: 1 for N or sender, then 6, then 9 for out.
 pub fn write(n: u8, sender: ServerId, records: &[u8], out: &mut [u8]) -> Written
-    ensures { λ r. ⌜ writing r (now (out .exit)) ≡ writeOf n sender (now (records .entry)) (now (out .entry)) ⌝ }
+    ensures { λ r. ⌜ filled r (now (out .exit)) ≡ writeOf n sender (now (records .entry)) (now (out .entry)) ⌝ }
 {
-    if !sender.is_of(n) {
+    if !sender.is_one_of(n) {
         return Written::Refused(Refusal::OutOfRange);
     }
     if !records_ok(records, n) {

@@ -207,7 +207,7 @@ pub fn header_ok(m: &[u8]) -> bool
     if m.len() < Header::LEN {
         return false;
     }
-    if !ServerId(m[Header::SENDER]).is_of(m[Header::N]) {
+    if !ServerId(m[Header::SENDER]).is_one_of(m[Header::N]) {
         return false;
     }
     let count = u16_at(m, Header::COUNT) as usize;

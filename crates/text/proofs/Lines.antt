@@ -3,7 +3,7 @@
 use Prim.Native.Nat.{ℕ, suc, _+_, _-_, _*_, _<_, _≤_}
 use mathlib.Core.Bool.{Bool, true, false, cond}
 use mathlib.Core.List.{List, [], _∷_, _++_, flatMap, append-nil}
-use mathlib.Core.Path.{_≡_, refl, ap}
+use mathlib.Core.Path.{_≡_, refl}
 use native.Mathlib.Nat.{zero-add}
 use native.Mathlib.Numerals.{add-six}
 use native.Mathlib.Omega.{arith}
@@ -11,15 +11,17 @@ use borrow.Author.Tests.{lt-ltb, le-ltb}
 use lib.Dec.{ltb}
 use lib.ListN.{length, getD, take, drop, length-take, length-drop, length-append, drop-of-length-le, take-append-drop, set}
 use lib.Seq.{take-all, take-at, take-take, length-take-le, getD-append-add}
-use Rattle.notes.specs.Reply.{done, refused}
+use Rattle.notes.specs.Reply.{given}
 use Rattle.notes.specs.Index.{servers}
-use Rattle.notes.specs.Message.{messageN, messageSender, brought, messageOk}
+use Rattle.notes.specs.Message.{messageN, messageSender, brought, messageOk, filled}
 use Rattle.notes.specs.declared.record.Record.{Record}
+use Rattle.notes.proofs.Answers.{filled-within}
 use Rattle.notes.proofs.Lists.{copied-more, sets-front}
 use Rattle.notes.proofs.Messages.{right-few, right-n}
 use Rattle.text.specs.Text.{text, decimal, spaced, Stored}
-use Rattle.text.specs.Listing.{line, numbersOf, recordLine, headLine, listing, headRoom, lineRoom, listingRoom, Print, printed, print}
-use Rattle.text.specs.declared.listing.Listed.the-variants.{Text, TooShort}
+use Rattle.text.specs.Listing.{line, numbersOf, recordLine, headLine, listing, headRoom, lineRoom, listingRoom, list}
+use Rattle.notes.specs.declared.message.Refusal.the-variants.{TooShort}
+use Rattle.notes.specs.declared.message.Written.the-variants.{Bytes, Refused}
 use Rattle.text.proofs.Decimals.{length-decimal, length-spaced}
 use Rattle.text.proofs.Texts.{each-room}
 
@@ -113,17 +115,17 @@ pub listed-wrong : (m : List ℕ) → messageOk m ≡ false → text "refused 6\
 unfolding listing
 listed-wrong m e = rw e
 
-pub print-short : (m out : List ℕ) → length out < listingRoom → printed TooShort out ≡ print m out
-unfolding print
-print-short m out h = rw (lt-ltb (length out) listingRoom h)
+pub list-short : (m out : List ℕ) → length out < listingRoom → filled (Refused TooShort) out ≡ list m out
+unfolding list
+list-short m out h = rw (lt-ltb (length out) listingRoom h)
 
-pub print-done :
+pub list-done :
     (m out : List ℕ) (end : ℕ) (after : List ℕ)
     → listingRoom ≤ length out
     → Stored out 0 (listing m) end after
-    → printed (Text end) after ≡ print m out
-unfolding print
-print-done m out end after h s =
+    → filled (Bytes end) after ≡ list m out
+unfolding list
+list-done m out end after h s =
     let room = listing-room m in
     rw (
       le-ltb (length out) listingRoom h,
@@ -134,16 +136,6 @@ print-done m out end after h s =
     )
 
 -- the text lies within the output
-pub listed-within : (m out : List ℕ) (k : ℕ) (after : List ℕ) → printed (Text k) after ≡ print m out → k ≤ length after
-unfolding print
-listed-within m out k after e = go (ltb (length out) listingRoom) e
-  where
-    go :
-        (t : Bool)
-        → printed (Text k) after ≡ cond t (record { reply = refused 9; output = out }) (record { reply = done (length (listing m) ∷ []); output = listing m ++ drop (length (listing m)) out })
-        → k ≤ length after
-    go true e = let z : _≡_ {A = ℕ} 0 9 = ap (λ (p : Print). p .reply .number) e in absurd (omega arith)
-    go false e =
-        let l = ap (λ (p : Print). getD (p .reply .values) 0 0) e in
-        let o = ap (λ (p : Print). length (p .output)) e in
-        omega (arith, l, o, length-append (listing m) (drop (length (listing m)) out))
+pub listed-within : (m out : List ℕ) (k : ℕ) (after : List ℕ) → filled (Bytes k) after ≡ list m out → k ≤ length after
+unfolding list
+listed-within m out k after e = filled-within (given (ltb (length out) listingRoom) TooShort) (listing m) out k after e

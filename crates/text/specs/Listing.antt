@@ -4,15 +4,14 @@ use Prim.Native.Nat.{ℕ, _+_, _*_}
 use mathlib.Core.Bool.{cond}
 use mathlib.Core.List.{List, [], _∷_, _++_, flatMap}
 use lib.Dec.{ltb}
-use lib.ListN.{length, take, drop}
-use Rattle.notes.specs.Reply.{Reply, done, refused}
+use lib.ListN.{length, take}
+use Rattle.notes.specs.Reply.{Filled, given}
 use Rattle.notes.specs.Index.{servers}
 use Rattle.notes.specs.Record.{number}
-use Rattle.notes.specs.Message.{historyMost, messageN, messageSender, brought, messageOk}
+use Rattle.notes.specs.Message.{historyMost, messageN, messageSender, brought, messageOk, fillUnless}
+use Rattle.notes.specs.declared.message.Refusal.the-variants.{TooShort}
 use Rattle.notes.specs.declared.record.Record.{Record}
 use Rattle.text.specs.Text.{text, digitsMost, decimal, spaced}
-use Rattle.text.specs.declared.listing.Listed.{Listed}
-use Rattle.text.specs.declared.listing.Listed.the-variants.{Text, TooShort}
 
 -- numbers in a line, with a space between any two
 unfoldable pub line : List ℕ → List ℕ
@@ -48,21 +47,6 @@ lineRoom = (digitsMost + 1) * (6 + servers)
 abbrev pub listingRoom : ℕ
 listingRoom = headRoom + lineRoom * historyMost
 
-abbrev pub listedReply : Listed → Reply
-listedReply (Text k) = done (k ∷ [])
-listedReply TooShort = refused 9
-
--- what the call answers and leaves in the output
-pub record Print : Type 0 where
-  pub reply : Reply
-  pub output : List ℕ
-
-abbrev pub printed : Listed → List ℕ → Print
-printed r out = record { reply = listedReply r; output = out }
-
--- a short output stays as it is, and of another only the text's own bytes change
-unfoldable pub print : List ℕ → List ℕ → Print
-print m out =
-    cond (ltb (length out) listingRoom)
-    (record { reply = refused 9; output = out })
-    (record { reply = done (length (listing m) ∷ []); output = listing m ++ drop (length (listing m)) out })
+-- the listing, into an output with room for any
+unfoldable pub list : List ℕ → List ℕ → Filled
+list m out = fillUnless (given (ltb (length out) listingRoom) TooShort) (listing m) out

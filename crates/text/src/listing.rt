@@ -5,24 +5,20 @@ ghost use mathlib.Core.List.{_++_, flatMap};
 ghost use mathlib.Core.Bool.{true};
 ghost use lib.ListN.{length, take};
 ghost use Rattle.notes.specs.Index.{servers};
-ghost use Rattle.notes.specs.Message.{brought, messageOk, headerSaid};
+ghost use Rattle.notes.specs.Message.{brought, messageOk, headerSaid, filled};
 ghost use Rattle.text.specs.Text.{digitsMost, decimal, spaced, Stored};
-ghost use Rattle.text.specs.Listing.{line, numbersOf, recordLine, headLine, listing, headRoom, lineRoom, listingRoom, printed, print};
+ghost use Rattle.text.specs.Listing.{line, numbersOf, recordLine, headLine, listing, headRoom, lineRoom, listingRoom, list as listOf};
 use crate::print::put_decimal;
 use crate::print::put_spaced;
 use crate::print::put_text;
 use notes::message;
 use notes::message::Checked;
 use notes::message::Header;
+use notes::message::Refusal;
+use notes::message::Written;
 use notes::raw;
 use notes::record::Record;
 use notes::vector::Vector;
-
-// What a listing gives: the length of the text, or 9.
-pub enum Listed {
-    Text(usize),
-    TooShort,
-}
 
 // How many numbers a record's line has before T, and with all of T.
 const FRONT: usize = 6;
@@ -36,10 +32,8 @@ const HEAD_ROOM: usize = 25 + 3 * DIGITS;
 
 const LINE_ROOM: usize = (DIGITS + 1) * NUMBERS;
 
-impl Listed {
-    // Room for any listing.
-    pub const ROOM: usize = HEAD_ROOM + LINE_ROOM * Header::WRITES_MOST;
-}
+// Room for any listing.
+pub const ROOM: usize = HEAD_ROOM + LINE_ROOM * Header::WRITES_MOST;
 
 // A text and a number behind it.
 fn put_named(out: &mut [u8], at: usize, t: &[u8], n: u32) -> usize
@@ -148,20 +142,6 @@ fn put_records(m: &[u8], out: &mut [u8], at: usize, n: u8, count: usize) -> usiz
     end
 }
 
-// Stores the listing of a message, right or not, at the start of out.
-pub fn list(m: &[u8], out: &mut [u8]) -> Listed
-    ensures { λ r. ⌜ printed r (now (out .exit)) ≡ print (now (m .entry)) (now (out .entry)) ⌝ }
-{
-    if out.len() < Listed::ROOM {
-        return Listed::TooShort;
-    }
-    let checked = message::check(m);
-    match checked {
-        Checked::Refused(_) => Listed::Text(put_text(out, 0, b"refused 6\n")),
-        Checked::Update(h) => Listed::Text(put_update(m, out, h)),
-    }
-}
-
 // The listing of a right message that says h.
 fn put_update(m: &[u8], out: &mut [u8], h: Header) -> usize
     requires { ⌜ (messageOk (now m) ≡ true) × (h ≡ headerSaid (now m)) × (listingRoom ≤ length (now out)) ⌝ }
@@ -169,4 +149,18 @@ fn put_update(m: &[u8], out: &mut [u8], h: Header) -> usize
 {
     let end = put_head(out, h.n as u32, h.sender.0 as u32, h.count as u32);
     put_records(m, out, end, h.n, h.count)
+}
+
+// Stores the listing of a message, right or not, at the start of out: 9 where out is shorter than `ROOM`.
+pub fn list(m: &[u8], out: &mut [u8]) -> Written
+    ensures { λ r. ⌜ filled r (now (out .exit)) ≡ listOf (now (m .entry)) (now (out .entry)) ⌝ }
+{
+    if out.len() < ROOM {
+        return Written::Refused(Refusal::TooShort);
+    }
+    let checked = message::check(m);
+    match checked {
+        Checked::Refused(_) => Written::Bytes(put_text(out, 0, b"refused 6\n")),
+        Checked::Update(h) => Written::Bytes(put_update(m, out, h)),
+    }
 }

@@ -4,8 +4,8 @@ use Prim.Native.Nat.{_≤_}
 use mathlib.Core.Path.{sym, ap, _∙_}
 use lib.ListN.{length}
 use lib.Seq.{length-take-le}
-use Rattle.text.specs.Listing.{printed}
-use Rattle.text.specs.declared.listing.Listed.{Listed}
+use Rattle.notes.specs.Message.{filled}
+use Rattle.notes.specs.declared.message.Written.{Written}
 use Rattle.text.proofs.Lines.{listed-within}
 use borrow.Author.Needs.{needs}
 use Rattle.listing.proofs.main.Statement.{statement}
@@ -14,8 +14,9 @@ use Rattle.listing.proofs.main.Tie as tie
 -- where a text was listed, its end
 within : (c : tie.After-known-told) → c .before .listed .given .0 .0 ≤ length (c .before .before .before .before .list .last .1 .0)
 within c =
-    let said = sym (ap (λ (l : Listed). printed l (c .before .before .before .before .list .last .1 .0)) (c .before .listed .given .1)) in
-    listed-within _ _ (c .before .listed .given .0 .0) (c .before .before .before .before .list .last .1 .0) (said ∙ c .before .before .before .before .list .ensures)
+    let after = c .before .before .before .before .list .last .1 .0 in
+    let said = sym (ap (λ (w : Written). filled w after) (c .before .listed .given .1)) in
+    listed-within _ _ (c .before .listed .given .0 .0) after (said ∙ c .before .before .before .before .list .ensures)
 
 array-share-prefix-out : tie.Need-array-share-prefix-out
 array-share-prefix-out c = within c

@@ -13,7 +13,7 @@ use Rattle.notes.proofs.message.write.Tie as tie
 
 -- N and sender are right, and then the records
 server : (c : tie.Else1) → serverOk (c .before .before .before .before .args .n) (c .before .before .before .before .args .sender) ≡ true
-server c = sym (c .before .is-of .ensures) ∙ not-false _ (c .if1 .left)
+server c = sym (c .before .is-one-of .ensures) ∙ not-false _ (c .if1 .left)
 
 right : (c : tie.Else2) → (whole (c .before .before .before .before .before .before .args .records .now) && recordsOk (c .before .before .before .before .before .before .args .n) (recordsIn (c .before .before .before .before .before .before .args .records .now))) ≡ true
 right c = sym (c .before .records-ok .ensures) ∙ not-false _ (c .if2 .left)
@@ -21,7 +21,7 @@ right c = sym (c .before .records-ok .ensures) ∙ not-false _ (c .if2 .left)
 returns : tie.Need-returns
 returns c =
     let a = c .before .before .before .before .args in
-    sym (write-1 (a .n) (a .sender) (a .records .now) (a .out .now) (sym (c .before .is-of .ensures) ∙ not-true _ (c .if1 .taken)))
+    sym (write-1 (a .n) (a .sender) (a .records .now) (a .out .now) (sym (c .before .is-one-of .ensures) ∙ not-true _ (c .if1 .taken)))
 
 records-ok-requires : tie.Need-records-ok-requires
 records-ok-requires c κs = let s = server-facts _ _ (server c) in omega arith

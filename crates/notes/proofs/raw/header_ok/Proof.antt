@@ -21,7 +21,7 @@ returns c =
 
 returns-2 : tie.Need-returns-2
 unfolding headerOk
-returns-2 c = rw (server-at (c .before .before .before .before .before .before .args .m .now), sym (c .before .is-of .ensures) ∙ not-true _ (c .if2 .taken))
+returns-2 c = rw (server-at (c .before .before .before .before .before .before .args .m .now), sym (c .before .is-one-of .ensures) ∙ not-true _ (c .if2 .taken))
 
 returns-3 : tie.Need-returns-3
 unfolding headerOk
@@ -42,7 +42,7 @@ returns-6 c =
     let m = c .before .before .before .before .before .before .before .before .before .before .before .before .args .m .now in
     rw (
       server-at m,
-      sym (c .before .before .before .before .before .before .before .is-of .ensures) ∙ not-false _ (c .before .before .before .before .before .before .if2 .left),
+      sym (c .before .before .before .before .before .before .before .is-one-of .ensures) ∙ not-false _ (c .before .before .before .before .before .before .if2 .left),
       le-leb (field countField m) 256 (omega arith),
       eq-eqb (field offsetField m) 8 (omega arith),
       eq-eqb (field totalField m) (length m) (omega arith),

@@ -1,10 +1,10 @@
--- `ServerId::is_of` meets its contract: each test decides where it stops.
+-- `ServerId::is_one_of` meets its contract: each test decides where it stops.
 -- Assumes nothing.
 use mathlib.Core.Bool.{and-false}
 use borrow.Author.Tests.{lt-leb, le-leb}
 use Rattle.notes.specs.Index.{serverOk}
-use Rattle.notes.proofs.index.ServerId.is_of.Statement.{statement}
-use Rattle.notes.proofs.index.ServerId.is_of.Tie as tie
+use Rattle.notes.proofs.index.ServerId.is_one_of.Statement.{statement}
+use Rattle.notes.proofs.index.ServerId.is_one_of.Tie as tie
 
 returns : tie.Need-returns
 unfolding serverOk
@@ -18,5 +18,5 @@ returns-3 : tie.Need-returns-3
 unfolding serverOk
 returns-3 c = rw (le-leb _ _ (c .before .before .if1 .left), le-leb _ _ (c .before .if2 .left))
 
-pub is-of-spec : {M : Type 1} → statement M
-is-of-spec = tie.close (tie.spec returns returns-2 returns-3)
+pub is-one-of-spec : {M : Type 1} → statement M
+is-one-of-spec = tie.close (tie.spec returns returns-2 returns-3)
