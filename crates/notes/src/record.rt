@@ -48,6 +48,7 @@ impl Record {
         raw::decoded(&padded)
     }
 
+    // The 28 bytes that a record is.
     pub fn to_bytes(self) -> [u8; Record::LEN]
         ensures { λ r. ⌜ r ≡ encode self ⌝ }
     {

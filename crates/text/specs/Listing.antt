@@ -22,6 +22,10 @@ line (x ∷ xs) = decimal x ++ flatMap spaced xs ++ text "\n"
 abbrev pub numbersOf : ℕ → Record → List ℕ
 numbersOf n r = r .origin .0 ∷ number r ∷ r .phone .0 ∷ r .cell ∷ r .value ∷ r .time ∷ take n (r .stamp .counts)
 
+-- how many of them stand before T
+abbrev pub beforeStamp : ℕ
+beforeStamp = 6
+
 abbrev pub recordLine : ℕ → Record → List ℕ
 recordLine n r = line (numbersOf n r)
 
@@ -42,7 +46,7 @@ abbrev pub headRoom : ℕ
 headRoom = length (text "servers  sender  writes \n") + 3 * digitsMost
 
 abbrev pub lineRoom : ℕ
-lineRoom = (digitsMost + 1) * (6 + servers)
+lineRoom = (digitsMost + 1) * (beforeStamp + servers)
 
 abbrev pub listingRoom : ℕ
 listingRoom = headRoom + lineRoom * historyMost

@@ -7,7 +7,7 @@ ghost use lib.ListN.{length, take};
 ghost use Rattle.notes.specs.Index.{servers};
 ghost use Rattle.notes.specs.Message.{brought, messageOk, headerSaid, filled};
 ghost use Rattle.text.specs.Text.{digitsMost, decimal, spaced, Stored};
-ghost use Rattle.text.specs.Listing.{line, numbersOf, recordLine, headLine, listing, headRoom, lineRoom, listingRoom, list as listOf};
+ghost use Rattle.text.specs.Listing.{line, numbersOf, beforeStamp, recordLine, headLine, listing, headRoom, lineRoom, listingRoom, list as listOf};
 use crate::print::put_decimal;
 use crate::print::put_spaced;
 use crate::print::put_text;
@@ -21,9 +21,9 @@ use notes::record::Record;
 use notes::vector::Vector;
 
 // How many numbers a record's line has before T, and with all of T.
-const FRONT: usize = 6;
+const BEFORE_STAMP: usize = 6;
 
-const NUMBERS: usize = FRONT + Vector::LEN;
+const NUMBERS: usize = BEFORE_STAMP + Vector::LEN;
 
 // The most digits that a number has, and room for the head line and for a record's line.
 const DIGITS: usize = 10;
@@ -81,12 +81,12 @@ fn put_line(out: &mut [u8], at: usize, xs: &[u32]) -> usize
 
 // The numbers of a line with T behind the first of them.
 fn with_stamp(front: [u32; NUMBERS], t: Vector) -> [u32; NUMBERS]
-    ensures { λ xs. ⌜ xs ≡ take 6 front ++ t .counts ⌝ }
+    ensures { λ xs. ⌜ xs ≡ take beforeStamp front ++ t .counts ⌝ }
 {
     let mut xs = front;
     let mut i: usize = 0;
     while i < Vector::LEN {
-        xs[i + FRONT] = raw::wide32(t.counts[i]);
+        xs[i + BEFORE_STAMP] = raw::wide32(t.counts[i]);
         i += 1;
     }
     xs
@@ -123,7 +123,7 @@ fn put_record(out: &mut [u8], at: usize, r: Record, n: u8) -> usize
     ensures { λ e. ⌜ Stored (now (out .entry)) at (recordLine n r) e (now (out .exit)) ⌝ }
 {
     let xs = numbers(r);
-    let count = (n as usize) + FRONT;
+    let count = (n as usize) + BEFORE_STAMP;
     put_line(out, at, &xs[..count])
 }
 
