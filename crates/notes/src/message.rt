@@ -50,7 +50,7 @@ impl Header {
     // The greatest count of writes, and the length of a message that brings so many.
     pub const WRITES_MOST: usize = 256;
 
-    pub const MESSAGE_MOST: usize = 7176;
+    pub const MESSAGE_MOST: usize = Self::LEN + Record::LEN * Self::WRITES_MOST;
 }
 
 // Answers N, sender and count, or 6.
