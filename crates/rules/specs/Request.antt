@@ -1,0 +1,144 @@
+-- Requests: a phone's read of a cell or write to it, and the same cut after some of its stores.
+-- Assumes nothing.
+use Prim.Native.Nat.{ℕ, _+_, _*_}
+use mathlib.Core.Bool.{Bool, true, false, _&&_, _||_, not, cond}
+use mathlib.Core.List.{List, [], _∷_, _++_}
+use mathlib.Core.Option.{Option, none, some}
+use lib.Dec.{ltb, leb}
+use lib.ListN.{length, take}
+use lib.Seq.{sets}
+use Rattle.notes.specs.Index.{phones}
+use Rattle.notes.specs.Vector.{at, raised, behind, zeroFrom}
+use Rattle.notes.specs.Record.{recordSize, cells, encode}
+use Rattle.notes.specs.Message.{historyMost}
+use Rattle.notes.specs.Reply.{Reply, given, first}
+use Rattle.notes.specs.declared.index.ServerId.{ServerId}
+use Rattle.notes.specs.declared.index.PhoneId.{PhoneId}
+use Rattle.notes.specs.declared.vector.Vector.{Vector}
+use Rattle.notes.specs.declared.record.Record.{Record}
+use Rattle.rules.specs.declared.state.State.{State}
+use Rattle.rules.specs.declared.event.Request.{Request}
+use Rattle.rules.specs.declared.event.Request.the-variants.{Read, Write}
+use Rattle.rules.specs.declared.answer.Refusal.{Refusal}
+use Rattle.rules.specs.declared.answer.Refusal.the-variants.{OutOfRange, NotYet, HistoryFull, LogFull}
+use Rattle.rules.specs.Writes.{winner}
+use Rattle.rules.specs.Phones.{withPhone}
+use Rattle.rules.specs.Memory.{Memory, memory, withState, withHistory, withImage, inCR, rwAt, rwWith, noReads, downOf, holding, noting, writes}
+use Rattle.rules.specs.Image.{logMost, checkpointCount, logCount}
+use Rattle.rules.specs.Stores.{Store, stored, writePlan, checkpointPlan}
+use Rattle.rules.specs.Answer.{Effect, valueReply, noNoteReply, writtenReply, replying, finished, unless}
+use Rattle.rules.specs.Refusals.{head, isDown, elsewhere}
+
+-- ---- a write
+
+-- raise V[own] by one
+unfoldable pub newVector : State → Vector
+newVector s = raised (s .vector) (s .own) (at (s .vector) (s .own) + 1)
+
+-- T is the new V
+abbrev pub newStamp : Memory → Vector
+newStamp m = newVector (m .state)
+
+-- the phone's time is stored as it comes
+abbrev pub newTime : ℕ → ℕ
+newTime time = time
+
+unfoldable pub newRecord : Memory → PhoneId → ℕ → ℕ → ℕ → Record
+newRecord m i cell value time =
+    record { origin = m .state .own; phone = i; cell = cell; value = value; time = newTime time; stamp = newStamp m }
+
+-- append to the history and raise nWrites by one
+unfoldable pub written : Record → Memory → Memory
+written r m =
+    let s = m .state in
+    withState (noting (s .cr) (s .rw) (s .nwrites + 1) (holding (s .held + 1) (newVector s) s))
+    (withHistory (sets (m .history) (recordSize * s .held) (encode r)) m)
+
+-- ---- a read
+
+-- if the phone is in CR this is a second read; otherwise add it and set its RW to nWrites
+unfoldable pub noted : State → PhoneId → Request → State
+noted s i (Read cell) = cond (inCR s i) s (noting (withPhone (s .cr) i) (rwWith s i (s .nwrites)) (s .nwrites) s)
+noted s i (Write cell value time) = s
+
+-- clear CR, RW, nWrites
+unfoldable pub cleared : State → State
+cleared s = noting 0 noReads 0 s
+
+abbrev pub valueOf : Option Record → Vector → Reply
+valueOf none v = noNoteReply v
+valueOf (some r) v = valueReply (r .value) v
+
+-- ---- either
+
+-- on a second read with RW above zero, take a checkpoint first
+unfoldable pub due : State → PhoneId → Request → Bool
+due s i (Read cell) = inCR s i && ltb 0 (rwAt s i)
+due s i (Write cell value time) = false
+
+-- the stores of a request, in order: a checkpoint's if one is due, then its own
+unfoldable pub ownPlan : Memory → PhoneId → Request → List Store
+ownPlan m i (Read cell) = []
+ownPlan m i (Write cell value time) = writePlan (newRecord m i cell value time) (logCount (m .image))
+
+unfoldable pub plan : Memory → PhoneId → Request → List Store
+plan m i q =
+    cond (due (m .state) i q) (checkpointPlan (m .history) (m .state .held) (checkpointCount (m .image))) []
+    ++ ownPlan m i q
+
+-- the state that a request goes on from: the read noted, and cleared if a checkpoint is due
+unfoldable pub ready : State → PhoneId → Request → State
+ready s i q = let t = noted s i q in cond (due s i q) (cleared t) t
+
+unfoldable pub performed : Memory → PhoneId → Request → Memory
+performed m i (Read cell) = withState (ready (m .state) i (Read cell)) m
+performed m i (Write cell value time) =
+    written (newRecord m i cell value time) (withState (ready (m .state) i (Write cell value time)) m)
+
+unfoldable pub replyTo : Request → Memory → Reply
+replyTo (Read cell) m = valueOf (winner cell (writes m)) (m .state .vector)
+replyTo (Write cell value time) m = writtenReply (m .state .vector)
+
+-- served: all the stores
+unfoldable pub served : Memory → PhoneId → Request → Effect
+served m i q =
+    let after = withImage (stored (m .image) (plan m i q)) (performed m i q) in
+    replying (replyTo q after) (after .state .vector) after
+
+-- cut after k: the first k are in the image, the state is down, the history is unchanged
+unfoldable pub cutAfter : Memory → PhoneId → Request → ℕ → Effect
+cutAfter m i q k = finished (memory (downOf (m .state)) (m .history) (stored (m .image) (take k (plan m i q))))
+
+-- ---- refusals, in order
+
+abbrev pub cellOf : Request → ℕ
+cellOf (Read cell) = cell
+cellOf (Write cell value time) = cell
+
+abbrev pub isWrite : Request → Bool
+isWrite (Read cell) = false
+isWrite (Write cell value time) = true
+
+-- server, phone, cell or vector out of range
+abbrev pub outOfRange : Memory → ServerId → PhoneId → Request → Vector → Bool
+outOfRange m j i q v =
+    elsewhere m j || not (ltb (i .0) phones) || not (ltb (cellOf q) cells) || not (zeroFrom (m .state .n) v)
+
+unfoldable pub requestRefusals : Memory → ServerId → PhoneId → Request → Vector → List (Option Refusal)
+requestRefusals m j i q v =
+    head m (isDown m)
+    ++ given (outOfRange m j i q v) OutOfRange
+    ∷ given (behind (m .state .vector) v) NotYet
+    ∷ given (isWrite q && leb historyMost (m .state .held)) HistoryFull
+    ∷ given (isWrite q && leb logMost (logCount (m .image))) LogFull
+    ∷ []
+
+-- a cut count is from 0 to the number of stores, and is tested last
+abbrev pub cutRefusal : Memory → PhoneId → Request → ℕ → Option Refusal
+cutRefusal m i q k = given (not (leb k (length (plan m i q)))) OutOfRange
+
+unfoldable pub request : Memory → ServerId → PhoneId → Request → Vector → Effect
+request m j i q v = unless (first (requestRefusals m j i q v)) m (served m i q)
+
+unfoldable pub requestCut : Memory → ServerId → PhoneId → Request → ℕ → Vector → Effect
+requestCut m j i q k v = unless (first (requestRefusals m j i q v ++ cutRefusal m i q k ∷ [])) m (cutAfter m i q k)
