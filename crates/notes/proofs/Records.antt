@@ -25,6 +25,8 @@ use Rattle.notes.proofs.Vectors.{vector-bytes, vector-from, length-vect
 
 -- each number fits its bytes
 pub record Fits (r : Record) : Type 0 where
+  pub origin : r .origin .0 < 256
+  pub phone : r .phone .0 < 256
   pub cell : r .cell < 256 ^ 2
   pub value : r .value < 256 ^ 4
   pub time : r .time < 256 ^ 4
@@ -67,6 +69,8 @@ pub decode-fits : (b : List ℕ) → AllBelow 256 b → Fits (decode b)
 unfolding decode
 decode-fits b h =
     record {
+      origin = from-below 1 b h;
+      phone = from-below 1 (drop 1 b) (below-drop 1 b h);
       cell = from-below 2 (drop 2 b) (below-drop 2 b h);
       value = from-below 4 (drop 4 b) (below-drop 4 b h);
       time = from-below 4 (drop 8 b) (below-drop 8 b h);

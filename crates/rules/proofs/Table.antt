@@ -12,19 +12,19 @@ use Rattle.notes.specs.Message as message
 use Rattle.rules.specs.Writes.{keep, counting, serverIds, writesOf, tally, inTurn, sameRecords, best, winner}
 use Rattle.rules.specs.Phones.{phoneIds, inSet, withPhone, members}
 use Rattle.rules.specs.Image.{headerOf, headerOk, checkpoint, log, freshImage}
-use Rattle.rules.specs.Recovery.{later, recovered, raisedBy, recoveredVector, recoveredState, recoveredHistory}
+use Rattle.rules.specs.Recovery.{later, recovered, raisedBy, recoveredVector, recoveredState, recoveredHistory, recover}
 use Rattle.rules.specs.Sound.{vCounts, isFirst, isLast, holdsBefore, writesOk, readsOk, consistent, isZero, suits, soundUp, soundDown, sound}
 use Rattle.rules.specs.Stores.{stored, byteStores, writePlan, checkpointPlan}
 use Rattle.rules.specs.Request.{newVector, newRecord, written, noted, cleared, due, ownPlan, plan, ready, performed, replyTo, served, cutAfter, requestRefusals, request, requestCut}
 use Rattle.rules.specs.Update.{atTurn, taken, updated, updateRefusals, update}
-use Rattle.rules.specs.Step.{cut, recovery, step}
+use Rattle.rules.specs.Step.{plainRefusals, cut, recovery, step}
 use Rattle.rules.specs.Calls.{fresh, ownMessage}
 use Rattle.rules.specs.Script.{Script, runs, holds, AllHold}
 use Rattle.rules.specs.Examples.{table, example1, example2, example3, example4, example5, example6, example7of28, example7of29, example8, example9}
 
 -- opened here alone, so that each example is computed
 unfoldable computed : Script → Bool
-unfolding every any same above fromBytes toBytes pieces serverOk raised sum behind zeroFrom vectorFrom vectorBytes decode encode inRange stampOk wellFormed beats records recordBytes message.headerOf message.messageOf message.recordsOk message.messageOk keep counting serverIds writesOf tally inTurn sameRecords best winner phoneIds inSet withPhone members headerOf headerOk checkpoint log freshImage later recovered raisedBy recoveredVector recoveredState recoveredHistory vCounts isFirst isLast holdsBefore writesOk readsOk consistent isZero suits soundUp soundDown sound stored byteStores writePlan checkpointPlan newVector newRecord written noted cleared due ownPlan plan ready performed replyTo served cutAfter requestRefusals request requestCut atTurn taken updated updateRefusals update cut recovery step fresh ownMessage runs holds flatMap zipWith
+unfolding every any same above fromBytes toBytes pieces serverOk raised sum behind zeroFrom vectorFrom vectorBytes decode encode inRange stampOk wellFormed beats records recordBytes message.headerOf message.messageOf message.recordsOk message.messageOk keep counting serverIds writesOf tally inTurn sameRecords best winner phoneIds inSet withPhone members headerOf headerOk checkpoint log freshImage later recovered raisedBy recoveredVector recoveredState recoveredHistory recover vCounts isFirst isLast holdsBefore writesOk readsOk consistent isZero suits soundUp soundDown sound stored byteStores writePlan checkpointPlan newVector newRecord written noted cleared due ownPlan plan ready performed replyTo served cutAfter requestRefusals request requestCut atTurn taken updated updateRefusals update plainRefusals cut recovery step fresh ownMessage runs holds flatMap zipWith
 computed x = holds x
 
 example-1 : T (computed example1)

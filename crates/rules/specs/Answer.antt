@@ -6,15 +6,15 @@ use mathlib.Core.Option.{Option, none, some}
 use Rattle.notes.specs.Reply.{Reply, done, refused}
 use Rattle.notes.specs.Vector.{zeros}
 use Rattle.notes.specs.declared.vector.Vector.{Vector}
-use Rattle.rules.specs.declared.answer.Refusal.{Refusal}
-use Rattle.rules.specs.declared.answer.Refusal.the-variants.{OutOfRange, NotUp, NotYet, HistoryFull, LogFull, Unsound, Gap, OwnAhead, TooShort}
 use Rattle.rules.specs.declared.answer.Answer.{Answer}
 use Rattle.rules.specs.declared.answer.Answer.the-variants as answer
-use Rattle.rules.specs.declared.answer.Outcome.{Outcome}
-use Rattle.rules.specs.declared.answer.Status.{Status}
-use Rattle.rules.specs.declared.answer.Status.the-variants as status
 use Rattle.rules.specs.declared.answer.Message.{Message}
 use Rattle.rules.specs.declared.answer.Message.the-variants as message
+use Rattle.rules.specs.declared.answer.Outcome.{Outcome}
+use Rattle.rules.specs.declared.answer.Refusal.{Refusal}
+use Rattle.rules.specs.declared.answer.Refusal.the-variants.{OutOfRange, NotUp, NotYet, HistoryFull, LogFull, Unsound, Gap, OwnAhead, TooShort}
+use Rattle.rules.specs.declared.answer.Status.{Status}
+use Rattle.rules.specs.declared.answer.Status.the-variants as status
 use Rattle.rules.specs.Memory.{Memory, memory}
 
 -- ---- refusals

@@ -6,16 +6,16 @@ use mathlib.Core.List.{List, [], _∷_, _++_}
 use mathlib.Core.Option.{Option, none, some, Option·map}
 use lib.Dec.{ltb, eqb}
 use lib.ListN.{length, take, drop, replicate}
+use Rattle.notes.specs.Reply.{Reply, done, Filled, given, orElse, first, fill}
 use Rattle.notes.specs.Index.{serverOk}
 use Rattle.notes.specs.Record.{recordSize, number}
 use Rattle.notes.specs.Message.{messageSize, messageOf}
-use Rattle.notes.specs.Reply.{Reply, done, Filled, given, orElse, first, fill}
-use Rattle.notes.specs.declared.index.ServerId.{ServerId}
 use Rattle.notes.specs.declared.index.PhoneId.{PhoneId}
+use Rattle.notes.specs.declared.index.ServerId.{ServerId}
 use Rattle.notes.specs.declared.record.Record.{Record}
+use Rattle.rules.specs.declared.answer.Message.{Message}
 use Rattle.rules.specs.declared.answer.Refusal.{Refusal}
 use Rattle.rules.specs.declared.answer.Refusal.the-variants.{OutOfRange, Unsound, TooShort}
-use Rattle.rules.specs.declared.answer.Message.{Message}
 use Rattle.rules.specs.Writes.{server}
 use Rattle.rules.specs.Phones.{members}
 use Rattle.rules.specs.Memory.{Memory, memory, blank, writes}
@@ -40,10 +40,11 @@ fresh n own h i =
 abbrev pub noServer : List ℕ → List ℕ → Memory
 noServer h i = memory (blank false 0 (server 0)) h i
 
+abbrev pub startRefusal : ℕ → ServerId → List ℕ → List ℕ → Option Refusal
+startRefusal n own h i = first (given (short (noServer h i)) TooShort ∷ given (not (serverOk n own)) OutOfRange ∷ [])
+
 unfoldable pub start : ℕ → ServerId → List ℕ → List ℕ → Effect
-start n own h i =
-    unless (first (given (short (noServer h i)) TooShort ∷ given (not (serverOk n own)) OutOfRange ∷ [])) (noServer h i)
-    (finished (fresh n own h i))
+start n own h i = unless (startRefusal n own h i) (noServer h i) (finished (fresh n own h i))
 
 -- ---- status: how many phones are in CR, and the lowest numbered one if any
 
@@ -89,6 +90,10 @@ lookUpRefusal i o =
 
 unfoldable pub lookUp : List ℕ → ServerId → ℕ → Reply
 lookUp i o k = replyUnless (lookUpRefusal i o) (done (bytesAt i (standsAt i o k)))
+
+-- a look-up's answer: a number beside a part of the image
+abbrev pub found : ℕ → List ℕ → Reply
+found k part = record { number = k; values = part }
 
 -- ---- the server's own update message, into an output
 

@@ -7,10 +7,10 @@ use lib.ListN.{getD, set, replicate}
 use Rattle.notes.specs.Index.{phones}
 use Rattle.notes.specs.Vector.{zeros}
 use Rattle.notes.specs.Record.{records}
-use Rattle.notes.specs.declared.index.ServerId.{ServerId}
 use Rattle.notes.specs.declared.index.PhoneId.{PhoneId}
-use Rattle.notes.specs.declared.vector.Vector.{Vector}
+use Rattle.notes.specs.declared.index.ServerId.{ServerId}
 use Rattle.notes.specs.declared.record.Record.{Record}
+use Rattle.notes.specs.declared.vector.Vector.{Vector}
 use Rattle.rules.specs.declared.state.ReadTable.{ReadTable}
 use Rattle.rules.specs.declared.state.State.{State}
 use Rattle.rules.specs.Phones.{inSet}

@@ -8,44 +8,47 @@ use lib.ListN.{length, drop, replicate}
 use Rattle.notes.specs.Vector.{at, raised}
 use Rattle.notes.specs.Record.{recordSize, number, recordBytes}
 use Rattle.notes.specs.declared.index.ServerId.{ServerId}
-use Rattle.notes.specs.declared.vector.Vector.{Vector}
 use Rattle.notes.specs.declared.record.Record.{Record}
+use Rattle.notes.specs.declared.vector.Vector.{Vector}
 use Rattle.rules.specs.declared.state.State.{State}
 use Rattle.rules.specs.Writes.{keep, countOf, tally}
 use Rattle.rules.specs.Memory.{Memory, memory, blank, holding, noting, noReads}
 use Rattle.rules.specs.Image.{historySize, checkpoint, log}
+
+-- ---- from the checkpoint's records and the log's
 
 -- log records numbered above V[own], in order; V is counted from the checkpoint's records
 unfoldable pub later : ServerId → List Record → List Record → List Record
 later own kept logged = keep (λ r. ltb (at (tally kept) own) (number r)) logged
 
 -- the history is the checkpoint, then these
-unfoldable pub recovered : ServerId → List ℕ → List Record
-recovered own i = checkpoint i ++ later own (checkpoint i) (log i)
+unfoldable pub recovered : ServerId → List Record → List Record → List Record
+recovered own kept logged = kept ++ later own kept logged
 
 -- V raised at own only
 unfoldable pub raisedBy : ServerId → Vector → List Record → Vector
 raisedBy own v [] = v
 raisedBy own v (r ∷ rs) = raisedBy own (raised v own (number r)) rs
 
-unfoldable pub recoveredVector : ServerId → List ℕ → Vector
-recoveredVector own i = raisedBy own (tally (checkpoint i)) (later own (checkpoint i) (log i))
+unfoldable pub recoveredVector : ServerId → List Record → List Record → Vector
+recoveredVector own kept logged = raisedBy own (tally kept) (later own kept logged)
 
 -- CR and RW empty; nWrites is V[own] less the checkpoint's own count
-unfoldable pub recoveredState : ℕ → ServerId → List ℕ → State
-recoveredState n own i =
-    noting 0 noReads (at (recoveredVector own i) own - countOf own (checkpoint i))
-    (holding (length (recovered own i)) (recoveredVector own i) (blank true n own))
+unfoldable pub recoveredState : ℕ → ServerId → List Record → List Record → State
+recoveredState n own kept logged =
+    let v = recoveredVector own kept logged in
+    noting 0 noReads (at v own - countOf own kept) (holding (length (recovered own kept logged)) v (blank true n own))
+
+-- ---- in memory
 
 -- the buffer's remaining bytes are zero, and what lies past its size stays
-unfoldable pub recoveredHistory : ServerId → List ℕ → List ℕ → List ℕ
-recoveredHistory own i h =
-    let rs = recovered own i in
-    recordBytes rs ++ replicate (historySize - recordSize * length rs) 0 ++ drop historySize h
+unfoldable pub recoveredHistory : List Record → List ℕ → List ℕ
+recoveredHistory rs h = recordBytes rs ++ replicate (historySize - recordSize * length rs) 0 ++ drop historySize h
 
 -- the image isn't touched
-abbrev pub recover : Memory → Memory
+unfoldable pub recover : Memory → Memory
 recover m =
-    memory (recoveredState (m .state .n) (m .state .own) (m .image))
-    (recoveredHistory (m .state .own) (m .image) (m .history))
-    (m .image)
+    let own = m .state .own in
+    let kept = checkpoint (m .image) in
+    let logged = log (m .image) in
+    memory (recoveredState (m .state .n) own kept logged) (recoveredHistory (recovered own kept logged) (m .history)) (m .image)

@@ -7,20 +7,20 @@ use mathlib.Core.Option.{Option, none, some}
 use lib.Dec.{ltb, leb}
 use lib.ListN.{length, take}
 use lib.Seq.{sets}
+use Rattle.notes.specs.Reply.{Reply, given, first}
 use Rattle.notes.specs.Index.{phones}
 use Rattle.notes.specs.Vector.{at, raised, behind, zeroFrom}
 use Rattle.notes.specs.Record.{recordSize, cells, encode}
 use Rattle.notes.specs.Message.{historyMost}
-use Rattle.notes.specs.Reply.{Reply, given, first}
-use Rattle.notes.specs.declared.index.ServerId.{ServerId}
 use Rattle.notes.specs.declared.index.PhoneId.{PhoneId}
-use Rattle.notes.specs.declared.vector.Vector.{Vector}
+use Rattle.notes.specs.declared.index.ServerId.{ServerId}
 use Rattle.notes.specs.declared.record.Record.{Record}
-use Rattle.rules.specs.declared.state.State.{State}
-use Rattle.rules.specs.declared.event.Request.{Request}
-use Rattle.rules.specs.declared.event.Request.the-variants.{Read, Write}
+use Rattle.notes.specs.declared.vector.Vector.{Vector}
 use Rattle.rules.specs.declared.answer.Refusal.{Refusal}
 use Rattle.rules.specs.declared.answer.Refusal.the-variants.{OutOfRange, NotYet, HistoryFull, LogFull}
+use Rattle.rules.specs.declared.event.Request.{Request}
+use Rattle.rules.specs.declared.event.Request.the-variants.{Read, Write}
+use Rattle.rules.specs.declared.state.State.{State}
 use Rattle.rules.specs.Writes.{winner}
 use Rattle.rules.specs.Phones.{withPhone}
 use Rattle.rules.specs.Memory.{Memory, memory, withState, withHistory, withImage, inCR, rwAt, rwWith, noReads, downOf, holding, noting, writes}

@@ -6,14 +6,14 @@ use mathlib.Core.List.{List, [], _∷_, _++_, map, foldr}
 use lib.Dec.{T, eqb}
 use lib.ListN.{length, getD, take, set, replicate}
 use Rattle.notes.specs.Lists.{same}
+use Rattle.notes.specs.Reply.{Reply, refused}
 use Rattle.notes.specs.Index.{servers}
 use Rattle.notes.specs.Vector.{vector, zeros}
-use Rattle.notes.specs.Reply.{Reply, refused}
-use Rattle.notes.specs.declared.vector.Vector.{Vector}
 use Rattle.notes.specs.declared.record.Record.{Record}
+use Rattle.notes.specs.declared.vector.Vector.{Vector}
+use Rattle.rules.specs.declared.event.Request.the-variants.{Read, Write}
 use Rattle.rules.specs.declared.event.What.{What}
 use Rattle.rules.specs.declared.event.What.the-variants as what
-use Rattle.rules.specs.declared.event.Request.the-variants.{Read, Write}
 use Rattle.rules.specs.declared.state.ReadTable.{ReadTable}
 use Rattle.rules.specs.Writes.{server, serverIds, sameRecords}
 use Rattle.rules.specs.Phones.{phone, members}

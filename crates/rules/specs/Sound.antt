@@ -9,8 +9,8 @@ use Rattle.notes.specs.Lists.{every, same}
 use Rattle.notes.specs.Vector.{at}
 use Rattle.notes.specs.Record.{wellFormed}
 use Rattle.notes.specs.Message.{historyMost}
-use Rattle.notes.specs.declared.index.ServerId.{ServerId}
 use Rattle.notes.specs.declared.index.PhoneId.{PhoneId}
+use Rattle.notes.specs.declared.index.ServerId.{ServerId}
 use Rattle.notes.specs.declared.record.Record.{Record}
 use Rattle.rules.specs.declared.state.State.{State}
 use Rattle.rules.specs.Writes.{writesOf, countOf, tally, inTurn, sameRecords}
@@ -76,7 +76,10 @@ isZero s =
 
 -- the image suits a down state of this N and own number
 unfoldable pub suits : ℕ → ServerId → List ℕ → Bool
-suits n own i = headerOk n own i && consistent (recoveredState n own i) (recovered own i) (checkpoint i) (log i)
+suits n own i =
+    let kept = checkpoint i in
+    let logged = log i in
+    headerOk n own i && consistent (recoveredState n own kept logged) (recovered own kept logged) kept logged
 
 -- ---- both
 

@@ -7,13 +7,13 @@ use mathlib.Core.Option.{Option, none, some}
 use lib.Dec.{leb, eqb}
 use lib.ListN.{length}
 use lib.Seq.{sets}
+use Rattle.notes.specs.Reply.{given, first}
 use Rattle.notes.specs.Vector.{at, raised}
 use Rattle.notes.specs.Record.{recordSize, number, recordBytes}
 use Rattle.notes.specs.Message.{historyMost, messageOk, messageN, messageSender, brought}
-use Rattle.notes.specs.Reply.{given, first}
 use Rattle.notes.specs.declared.index.ServerId.{ServerId}
-use Rattle.notes.specs.declared.vector.Vector.{Vector}
 use Rattle.notes.specs.declared.record.Record.{Record}
+use Rattle.notes.specs.declared.vector.Vector.{Vector}
 use Rattle.rules.specs.declared.answer.Refusal.{Refusal}
 use Rattle.rules.specs.declared.answer.Refusal.the-variants.{OutOfRange, Unsound, HistoryFull, Gap, OwnAhead}
 use Rattle.rules.specs.Memory.{Memory, withState, withHistory, holding}

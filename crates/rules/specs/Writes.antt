@@ -11,8 +11,8 @@ use Rattle.notes.specs.Index.{servers}
 use Rattle.notes.specs.Vector.{vector}
 use Rattle.notes.specs.Record.{number, beats}
 use Rattle.notes.specs.declared.index.ServerId.{ServerId}
-use Rattle.notes.specs.declared.vector.Vector.{Vector}
 use Rattle.notes.specs.declared.record.Record.{Record}
+use Rattle.notes.specs.declared.vector.Vector.{Vector}
 
 -- those of a list that pass a test, in order
 abbrev pub keepIf : {A : Type 0} → Bool → A → List A → List A
