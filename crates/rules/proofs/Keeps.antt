@@ -47,7 +47,7 @@ use Rattle.rules.proofs.Places.{records-appended, records-front}
 use Rattle.rules.proofs.Stores.{fresh-shows, shows-server}
 use Rattle.rules.proofs.Sound.{Facts, took}
 use Rattle.rules.proofs.Open.{Up, opened, closed, closed-down}
-use Rattle.rules.proofs.Admit.{Asked, Brought, Plain, unless-keeps, plain, asked, asked-cut, brought-known}
+use Rattle.rules.proofs.Passed.{Asked, Brought, Plain, unless-keeps, plain, asked, asked-cut, brought-known}
 use Rattle.rules.proofs.Newest.{formed}
 use Rattle.rules.proofs.Reading.{noted-is, cp, read-left, read-cut}
 use Rattle.rules.proofs.Writing.{write-left, write-cut-so}
@@ -63,12 +63,12 @@ module _ (m : Memory) (j : ServerId) (i : PhoneId) (v : Vector) where
       (read-left m j i (Read cell) v a b))
     where
       b : Bool
-      b = due (m .state) i (Read cell)
+      b = due m i (Read cell)
   served-sound (Write cell value time) a = write-left m j i cell value time v a
 
   pub cut-sound : (q : Request) (k : ℕ) → Asked m j i q v → sound (cutAfter m i q k .after) ≡ true
   unfolding cutAfter plan ownPlan due
-  cut-sound (Read cell) k a = rw append-nil (read-cut m j i (Read cell) v a (due (m .state) i (Read cell)) k)
+  cut-sound (Read cell) k a = rw append-nil (read-cut m j i (Read cell) v a (due m i (Read cell)) k)
   cut-sound (Write cell value time) k a = write-cut-so m j i cell value time v a k
 
 -- ---- an update

@@ -1,3 +1,7 @@
+pub mod Script
+pub mod Computed
+pub mod Examples
+pub mod Further
 pub mod Lists
 pub mod Writes
 pub mod Stamps
@@ -5,11 +9,11 @@ pub mod Phones
 pub mod Winner
 pub mod Status
 pub mod Places
-pub mod Bytes
+pub mod Octets
 pub mod Stores
 pub mod Sound
 pub mod Open
-pub mod Admit
+pub mod Passed
 pub mod Newest
 pub mod Reading
 pub mod Writing
@@ -17,4 +21,3 @@ pub mod Keeps
 pub mod Stays
 pub mod Unique
 pub mod One
-pub mod Table

@@ -29,7 +29,7 @@ use Rattle.rules.specs.Update.{takenFrom, updated, updateRefusals, updat
 use Rattle.rules.specs.Step.{plainRefusals, cut, recovery, happens, step}
 use Rattle.rules.specs.Calls.{fresh, noServer, startRefusal, start, status, found, lookUp, filled, message}
 use Rattle.rules.proofs.Writes.{length-tally}
-use Rattle.rules.proofs.Admit.{Asked, asked, unless-either}
+use Rattle.rules.proofs.Passed.{Asked, asked, unless-either}
 use Rattle.rules.proofs.Newest.{eight}
 use Rattle.rules.proofs.Reading.{up, noted-is}
 use Rattle.rules.proofs.Unique.{effects-known, status-known, filled-known}
@@ -39,18 +39,18 @@ abbrev Eight : Effect → Type 0
 Eight e = length (e .vector .counts) ≡ servers
 
 -- a request's noting and a checkpoint's clearing leave V
-ready-vector : (s : State) (i : PhoneId) (q : Request) → ready s i q .vector ≡ s .vector
+ready-vector : (m : Memory) (i : PhoneId) (q : Request) → ready m i q .vector ≡ m .state .vector
 unfolding ready cleared
-ready-vector s i q = go (due s i q)
+ready-vector m i q = go (due m i q)
   where
-    go : (b : Bool) → (cond b (cleared (noted s i q)) (noted s i q)) .vector ≡ s .vector
-    go true = ap (λ (t : State). t .vector) (noted-is s i q)
-    go false = ap (λ (t : State). t .vector) (noted-is s i q)
+    go : (b : Bool) → cond b (cleared (noted (m .state) i q)) (noted (m .state) i q) .vector ≡ m .state .vector
+    go true = ap (λ (t : State). t .vector) (noted-is (m .state) i q)
+    go false = ap (λ (t : State). t .vector) (noted-is (m .state) i q)
 
 served-eight : (m : Memory) (j : ServerId) (i : PhoneId) (q : Request) (v : Vector) → Asked m j i q v → Eight (served m i q)
 unfolding served performed ready noted due written newRecord
 served-eight m j i (Read cell) v a =
-    ap (λ (v : Vector). length (v .counts)) (ready-vector (m .state) i (Read cell) ∙ up m j i (Read cell) v a .facts .counts)
+    ap (λ (v : Vector). length (v .counts)) (ready-vector m i (Read cell) ∙ up m j i (Read cell) v a .facts .counts)
     ∙ length-tally (writes m)
 served-eight m j i (Write cell value time) v a =
     eight m (up m j i (Write cell value time) v a) i cell value time (a .phone) (a .cell) (a .room refl)

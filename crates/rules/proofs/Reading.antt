@@ -30,7 +30,7 @@ use Rattle.rules.proofs.Phones.{reads-cleared, reads-noted}
 use Rattle.rules.proofs.Stores.{Shows, shows-counts, length-checkpointPlan, checkpoint-cut, checkpoint-counted, checkpoint-all}
 use Rattle.rules.proofs.Sound.{Facts, kept-few, noted-facts, kept-all, log-empty}
 use Rattle.rules.proofs.Open.{Up, opened, closed, closed-down, own-low}
-use Rattle.rules.proofs.Admit.{Asked}
+use Rattle.rules.proofs.Passed.{Asked}
 
 -- a request noted changes CR and RW alone
 abbrev pub Renoted : State → State → Type 0

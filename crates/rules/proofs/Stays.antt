@@ -26,8 +26,8 @@ use Rattle.rules.specs.Refusals.{isDown}
 use Rattle.rules.specs.Request.{newRecord, written, due, ownPlan, plan, performed, served, cutAfter, requestRefusals, cutRefusal, request, requestCut}
 use Rattle.rules.specs.Update.{takenFrom, updated, updateRefusals, update}
 use Rattle.rules.specs.Step.{plainRefusals, cut, recovery, happens, step}
-use Rattle.rules.proofs.Bytes.{below-append, below-sets, below-zeros, below-encode, below-recordBytes, each-take, IsByte, below-stored, write-bytes, checkpoint-bytes}
-use Rattle.rules.proofs.Admit.{Asked, Brought, unless-keeps, asked, asked-cut, brought-known}
+use Rattle.rules.proofs.Octets.{below-append, below-sets, below-zeros, below-encode, below-recordBytes, each-take, IsByte, below-stored, write-bytes, checkpoint-bytes}
+use Rattle.rules.proofs.Passed.{Asked, Brought, unless-keeps, asked, asked-cut, brought-known}
 use Rattle.rules.proofs.Reading.{own}
 use Rattle.rules.proofs.Keeps.{each-append, new-fit, recoveredIn, recovered-fit}
 
@@ -51,9 +51,9 @@ module _ (m : Memory) (b : Bytes m) (j : ServerId) (i : PhoneId) (v : Vector) wh
   plan-bytes : (q : Request) → Asked m j i q v → Each IsByte (plan m i q)
   unfolding plan
   plan-bytes q a =
-      each-append IsByte (cond (due (m .state) i q) (checkpointPlan (m .history) (m .state .held) (checkpointCount (m .image))) [])
+      each-append IsByte (cond (due m i q) (checkpointPlan (m .history) (m .state .held) (checkpointCount (m .image))) [])
       (ownPlan m i q)
-      (go (due (m .state) i q))
+      (go (due m i q))
       (own-bytes q a)
     where
       go : (d : Bool) → Each IsByte (cond d (checkpointPlan (m .history) (m .state .held) (checkpointCount (m .image))) [])

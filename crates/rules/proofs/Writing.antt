@@ -27,7 +27,7 @@ use Rattle.rules.proofs.Places.{records-appended, records-one}
 use Rattle.rules.proofs.Stores.{Shows, length-writePlan, write-cut, write-all}
 use Rattle.rules.proofs.Sound.{Facts, wrote}
 use Rattle.rules.proofs.Open.{Up, closed, closed-down}
-use Rattle.rules.proofs.Admit.{Asked}
+use Rattle.rules.proofs.Passed.{Asked}
 use Rattle.rules.proofs.Newest.{encoded, like, number-like, next, formed}
 use Rattle.rules.proofs.Reading.{up, held, own}
 

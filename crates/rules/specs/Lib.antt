@@ -11,5 +11,3 @@ pub mod Request
 pub mod Update
 pub mod Step
 pub mod Calls
-pub mod Script
-pub mod Examples

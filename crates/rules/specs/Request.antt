@@ -72,9 +72,9 @@ valueOf (some r) v = valueReply (r .value) v
 -- ---- either
 
 -- on a second read with RW above zero, take a checkpoint first
-unfoldable pub due : State → PhoneId → Request → Bool
-due s i (Read cell) = inCR s i && ltb 0 (rwAt s i)
-due s i (Write cell value time) = false
+unfoldable pub due : Memory → PhoneId → Request → Bool
+due m i (Read cell) = inCR (m .state) i && ltb 0 (rwAt (m .state) i)
+due m i (Write cell value time) = false
 
 -- the stores of a request, in order: a checkpoint's if one is due, then its own
 unfoldable pub ownPlan : Memory → PhoneId → Request → List Store
@@ -83,17 +83,17 @@ ownPlan m i (Write cell value time) = writePlan (newRecord m i cell value time) 
 
 unfoldable pub plan : Memory → PhoneId → Request → List Store
 plan m i q =
-    cond (due (m .state) i q) (checkpointPlan (m .history) (m .state .held) (checkpointCount (m .image))) []
+    cond (due m i q) (checkpointPlan (m .history) (m .state .held) (checkpointCount (m .image))) []
     ++ ownPlan m i q
 
 -- the state that a request goes on from: the read noted, and cleared if a checkpoint is due
-unfoldable pub ready : State → PhoneId → Request → State
-ready s i q = let t = noted s i q in cond (due s i q) (cleared t) t
+unfoldable pub ready : Memory → PhoneId → Request → State
+ready m i q = let s = noted (m .state) i q in cond (due m i q) (cleared s) s
 
 unfoldable pub performed : Memory → PhoneId → Request → Memory
-performed m i (Read cell) = withState (ready (m .state) i (Read cell)) m
+performed m i (Read cell) = withState (ready m i (Read cell)) m
 performed m i (Write cell value time) =
-    written (newRecord m i cell value time) (withState (ready (m .state) i (Write cell value time)) m)
+    written (newRecord m i cell value time) (withState (ready m i (Write cell value time)) m)
 
 unfoldable pub replyTo : Request → Memory → Reply
 replyTo (Read cell) m = valueOf (winner cell (writes m)) (m .state .vector)

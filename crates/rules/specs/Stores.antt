@@ -38,6 +38,4 @@ writePlan r logged = byteStores (logPlace logged) (encode r) ++ count logField (
 unfoldable pub checkpointPlan : List ℕ → ℕ → ℕ → List Store
 checkpointPlan h held kept =
     byteStores (checkpointPlace kept) (take (recordSize * (held - kept)) (drop (recordSize * kept) h))
-    ++ count checkpointField held
-    ∷ count logField 0
-    ∷ []
+    ++ count checkpointField held ∷ count logField 0 ∷ []

@@ -66,6 +66,7 @@ sameRecords (a ∷ xs) (b ∷ ys) = same (numbersOf a) (numbersOf b) && sameReco
 
 -- ---- a cell's winner
 
+-- the better of two; of equals the first
 abbrev pub better : Option Record → Record → Option Record
 better none r = some r
 better (some w) r = some (cond (beats r w) r w)
@@ -74,5 +75,6 @@ unfoldable pub best : Option Record → List Record → Option Record
 best w [] = w
 best w (r ∷ rs) = best (better w r) rs
 
+-- the winner among the cell's writes, or none
 unfoldable pub winner : ℕ → List Record → Option Record
 winner c rs = best none (keep (λ r. eqb (r .cell) c) rs)

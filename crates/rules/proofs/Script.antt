@@ -6,7 +6,6 @@ use mathlib.Core.List.{List, [], _∷_, _++_, map, foldr}
 use lib.Dec.{T, eqb}
 use lib.ListN.{length, getD, take, set, replicate}
 use Rattle.notes.specs.Lists.{same}
-use Rattle.notes.specs.Reply.{Reply, refused}
 use Rattle.notes.specs.Index.{servers}
 use Rattle.notes.specs.Vector.{vector, zeros}
 use Rattle.notes.specs.declared.record.Record.{Record}
@@ -15,11 +14,11 @@ use Rattle.rules.specs.declared.event.Request.the-variants.{Read, Write}
 use Rattle.rules.specs.declared.event.What.{What}
 use Rattle.rules.specs.declared.event.What.the-variants as what
 use Rattle.rules.specs.declared.state.ReadTable.{ReadTable}
-use Rattle.rules.specs.Writes.{server, serverIds, sameRecords}
-use Rattle.rules.specs.Phones.{phone, members}
+use Rattle.rules.specs.Writes.{serverIds, sameRecords, server}
+use Rattle.rules.specs.Phones.{members, phone}
 use Rattle.rules.specs.Memory.{Memory, noReads, writes}
 use Rattle.rules.specs.Image.{checkpointCount, logCount}
-use Rattle.rules.specs.Answer.{Effect, valueReply, noNoteReply, writtenReply, doneReply}
+use Rattle.rules.specs.Answer.{Effect}
 use Rattle.rules.specs.Step.{step}
 use Rattle.rules.specs.Calls.{fresh, ownMessage}
 
@@ -72,26 +71,30 @@ takeBytes j m = record { at = j; what = what.Update; vector = zeros; message = �
 abbrev pub takeFrom : (at sender : ℕ) → Act
 takeFrom j k = record { at = j; what = what.Update; vector = zeros; message = λ farm. ownMessage (getD farm k noServer) }
 
--- ---- what is said: the reply, and the vector beside it
+-- ---- what is said: the reply in document 01's number and values, and the vector beside it
 
 pub record Said : Type 0 where
-  pub reply : Reply
+  pub number : ℕ
+  pub values : List ℕ
   pub vector : Vector
 
+abbrev serving : List ℕ → List ℕ → Said
+serving values l = record { number = 0; values = values ++ vec l .counts; vector = vec l }
+
 abbrev pub wrote : List ℕ → Said
-wrote l = record { reply = writtenReply (vec l); vector = vec l }
+wrote l = serving [] l
 
 abbrev pub value : ℕ → List ℕ → Said
-value x l = record { reply = valueReply x (vec l); vector = vec l }
+value x l = serving (1 ∷ x ∷ []) l
 
 abbrev pub noNote : List ℕ → Said
-noNote l = record { reply = noNoteReply (vec l); vector = vec l }
-
-abbrev pub done : Said
-done = record { reply = doneReply; vector = zeros }
+noNote l = serving (0 ∷ []) l
 
 abbrev pub refusal : ℕ → Said
-refusal k = record { reply = refused k; vector = zeros }
+refusal k = record { number = k; values = []; vector = zeros }
+
+abbrev pub done : Said
+done = refusal 0
 
 -- ---- what is left: V, the checkpoint's and the log's count, the phones in CR each with its RW, nWrites, the history's writes
 
@@ -119,8 +122,8 @@ down c g = leaves [] c g [] 0 []
 
 abbrev pub says : Said → Effect → Bool
 says w e =
-    eqb (e .reply .number) (w .reply .number)
-    && same (e .reply .values) (w .reply .values)
+    eqb (e .reply .number) (w .number)
+    && same (e .reply .values) (w .values)
     && same (e .vector .counts) (w .vector .counts)
 
 abbrev pub tableOf : List Reader → ReadTable
