@@ -13,6 +13,7 @@ use Rattle.notes.specs.declared.index.ServerId.{ServerId}
 use Rattle.notes.specs.declared.vector.Vector.{Vector}
 use Rattle.rules.specs.declared.answer.Message.{Message}
 use Rattle.rules.specs.declared.answer.Outcome.{Outcome}
+use Rattle.rules.specs.declared.answer.Verdict.{Verdict}
 use Rattle.rules.specs.declared.answer.Status.{Status}
 use Rattle.rules.specs.declared.event.Event.{Event}
 use Rattle.rules.specs.declared.event.Request.{Request}
@@ -22,17 +23,17 @@ use Rattle.rules.specs.declared.event.What.the-variants as what
 use Rattle.rules.specs.declared.state.State.{State}
 use Rattle.rules.specs.Memory.{Memory, withState, downOf, writes}
 use Rattle.rules.specs.Recovery.{recover}
-use Rattle.rules.specs.Answer.{Effect, effectOf, statusReply, finished}
+use Rattle.rules.specs.Answer.{Effect, effectOf, verdictReply, statusReply, finished}
 use Rattle.rules.specs.Refusals.{isDown}
 use Rattle.rules.specs.Request.{noted, cleared, due, ready, performed, served, cutAfter, written, newRecord, requestRefusals, cutRefusal, request, requestCut}
 use Rattle.rules.specs.Update.{takenFrom, updated, updateRefusals, update}
 use Rattle.rules.specs.Step.{plainRefusals, cut, recovery, happens, step}
-use Rattle.rules.specs.Calls.{fresh, noServer, startRefusal, start, status, found, lookUp, filled, message}
+use Rattle.rules.specs.Calls.{judge, fresh, noServer, startRefusal, start, status, found, lookUp, filled, message}
 use Rattle.rules.proofs.Writes.{length-tally}
 use Rattle.rules.proofs.Passed.{Asked, asked, unless-either}
 use Rattle.rules.proofs.Newest.{eight}
 use Rattle.rules.proofs.Reading.{up, noted-is}
-use Rattle.rules.proofs.Unique.{effects-known, status-known, filled-known}
+use Rattle.rules.proofs.Unique.{effects-known, verdicts-known, status-known, filled-known}
 
 -- ---- the vector of every effect has eight counts
 abbrev Eight : Effect → Type 0
@@ -93,6 +94,10 @@ module _ (a b : Outcome) (h g i j : List ℕ) where
   unfolding start
   start-one n own h₀ i₀ =
       one-effect (start n own h₀ i₀) (unless-either Eight (startRefusal n own h₀ i₀) (noServer h₀ i₀) (finished (fresh n own h₀ i₀)) (λ k. refl) (λ r. refl))
+
+-- ---- a verdict
+pub judge-one : (a b : Verdict) (m : Memory) → verdictReply a ≡ judge m → verdictReply b ≡ judge m → a ≡ b
+judge-one a b m p q = verdicts-known a b (p ∙ sym q)
 
 -- ---- a status, and a server's own message with each byte of its output
 pub status-one : (a b : Status) (m : Memory) → statusReply a ≡ status m → statusReply b ≡ status m → a ≡ b

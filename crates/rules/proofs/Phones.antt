@@ -105,11 +105,6 @@ pub reads-cleared : (s : State) → readsOk (cleared s) ≡ true
 unfolding cleared
 reads-cleared s = no-reads (cleared s) (λ i. zeros-at phones (i .0))
 
--- another history and V change nothing of it
-pub reads-held : (s : State) (k : ℕ) (v : Vector) → readsOk (holding k v s) ≡ readsOk s
-unfolding readsOk
-reads-held s k v = refl
-
 -- a write raises nWrites
 pub reads-more :
     (s : State) (k : ℕ) (v : Vector)

@@ -99,10 +99,6 @@ module _ (s : State) (h c l : List Record) (f : Facts s h c l) where
   pub kept-own : (o : ServerId) → countOf o c ≤ countOf o h
   kept-own o = omega (arith, ap (countOf o) (f .first), countOf-take o (length c) h)
 
-  -- the log no more than the own writes
-  pub logged-few : length l ≤ countOf (s .own) h
-  logged-few = omega (arith, ap length (f .last), length-drop (countOf (s .own) h - length l) (writesOf (s .own) h))
-
   module _ (own : s .own .0 < servers) where
     pub own-count : at (s .vector) (s .own) ≡ countOf (s .own) h
     own-count = ap (λ (v : Vector). at v (s .own)) (f .counts) ∙ at-tally h (s .own) own

@@ -17,9 +17,11 @@ use Rattle.rules.specs.declared.answer.Message.the-variants as message
 use Rattle.rules.specs.declared.answer.Outcome.{Outcome}
 use Rattle.rules.specs.declared.answer.Refusal.{Refusal}
 use Rattle.rules.specs.declared.answer.Refusal.the-variants.{OutOfRange, NotUp, NotYet, HistoryFull, LogFull, Unsound, Gap, OwnAhead, TooShort}
+use Rattle.rules.specs.declared.answer.Verdict.{Verdict}
+use Rattle.rules.specs.declared.answer.Verdict.the-variants as verdict
 use Rattle.rules.specs.declared.answer.Status.{Status}
 use Rattle.rules.specs.declared.answer.Status.the-variants as status
-use Rattle.rules.specs.Answer.{Effect, refusalReply, answerReply, effectOf, statusReply, messageReply}
+use Rattle.rules.specs.Answer.{Effect, refusalReply, answerReply, effectOf, verdictReply, statusReply, messageReply}
 use Rattle.rules.specs.Calls.{filled}
 
 -- ---- the way back from a reply: from its values if its number is 0, from its number otherwise
@@ -89,6 +91,15 @@ effects-known a b h g i j l e =
       ap (λ (x : Effect). x .after .history) e,
       ap (λ (x : Effect). x .after .image) e,
     )
+
+-- ---- a verdict
+
+verdict-back : (a : Verdict) → back (λ l. verdict.Sound) verdict.Refused (verdictReply a) ≡ a
+verdict-back verdict.Sound = refl
+verdict-back (verdict.Refused r) = refused-back (λ l. verdict.Sound) verdict.Refused r
+
+pub verdicts-known : (a b : Verdict) → verdictReply a ≡ verdictReply b → a ≡ b
+verdicts-known = known-by verdictReply (back (λ l. verdict.Sound) verdict.Refused) verdict-back
 
 -- ---- a status: nobody has one value, phones have two
 

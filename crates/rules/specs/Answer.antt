@@ -13,6 +13,8 @@ use Rattle.rules.specs.declared.answer.Message.the-variants as message
 use Rattle.rules.specs.declared.answer.Outcome.{Outcome}
 use Rattle.rules.specs.declared.answer.Refusal.{Refusal}
 use Rattle.rules.specs.declared.answer.Refusal.the-variants.{OutOfRange, NotUp, NotYet, HistoryFull, LogFull, Unsound, Gap, OwnAhead, TooShort}
+use Rattle.rules.specs.declared.answer.Verdict.{Verdict}
+use Rattle.rules.specs.declared.answer.Verdict.the-variants as verdict
 use Rattle.rules.specs.declared.answer.Status.{Status}
 use Rattle.rules.specs.declared.answer.Status.the-variants as status
 use Rattle.rules.specs.Memory.{Memory, memory}
@@ -82,6 +84,10 @@ unless none m e = e
 unless (some r) m e = replying (refusalReply r) zeros m
 
 -- ---- the other calls' answers
+
+abbrev pub verdictReply : Verdict → Reply
+verdictReply verdict.Sound = doneReply
+verdictReply (verdict.Refused r) = refusalReply r
 
 abbrev pub statusReply : Status → Reply
 statusReply status.Nobody = done (0 ∷ [])

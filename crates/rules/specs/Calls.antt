@@ -1,4 +1,4 @@
--- The calls beside the step: starting anew, status, look-up, the server's own message.
+-- The calls beside the step: judging, starting anew, status, look-up, the server's own message.
 -- Assumes nothing.
 use Prim.Native.Nat.{ℕ, suc}
 use mathlib.Core.Bool.{Bool, true, false, _&&_, not}
@@ -21,13 +21,18 @@ use Rattle.rules.specs.Phones.{members}
 use Rattle.rules.specs.Memory.{Memory, memory, blank, writes}
 use Rattle.rules.specs.Image.{historySize, imageSize, imageN, imageOwn, checkpointPlace, logPlace, checkpoint, log, freshImage}
 use Rattle.rules.specs.Sound.{suits}
-use Rattle.rules.specs.Answer.{Effect, refusalReply, finished, unless, messageReply}
-use Rattle.rules.specs.Refusals.{short, head, isDown}
+use Rattle.rules.specs.Answer.{Effect, refusalReply, doneReply, finished, unless, messageReply}
+use Rattle.rules.specs.Refusals.{short, judged, head, isDown}
 
 -- a refusal, or else a reply
 abbrev pub replyUnless : Option Refusal → Reply → Reply
 replyUnless none r = r
 replyUnless (some k) r = refusalReply k
+
+-- ---- judging a state with its buffers
+
+unfoldable pub judge : Memory → Reply
+judge m = replyUnless (first (judged m)) doneReply
 
 -- ---- starting anew
 

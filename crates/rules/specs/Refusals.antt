@@ -1,7 +1,7 @@
 -- What every call on a server refuses first: 9 for history and image, 6 for state, 2.
 -- Assumes nothing.
 use mathlib.Core.Bool.{Bool, _||_, not}
-use mathlib.Core.List.{List, [], _∷_}
+use mathlib.Core.List.{List, [], _∷_, _++_}
 use mathlib.Core.Option.{Option}
 use lib.Dec.{ltb, eqb}
 use lib.ListN.{length}
@@ -17,9 +17,12 @@ use Rattle.rules.specs.Sound.{sound}
 abbrev pub short : Memory → Bool
 short m = ltb (length (m .history)) historySize || ltb (length (m .image)) imageSize
 
+abbrev pub judged : Memory → List (Option Refusal)
+judged m = given (short m) TooShort ∷ given (not (sound m)) Unsound ∷ []
+
 -- the head of each call's list, given whether the server is up where it must be down or down where it must be up
 abbrev pub head : Memory → Bool → List (Option Refusal)
-head m wrong = given (short m) TooShort ∷ given (not (sound m)) Unsound ∷ given wrong NotUp ∷ []
+head m wrong = judged m ++ given wrong NotUp ∷ []
 
 abbrev pub isDown : Memory → Bool
 isDown m = not (m .state .up)

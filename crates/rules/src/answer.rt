@@ -32,6 +32,12 @@ pub struct Outcome {
     pub next: State,
 }
 
+// What judging a state with its buffers finds.
+pub enum Verdict {
+    Sound,
+    Refused(Refusal),
+}
+
 // A status: how many phones are in CR, and the lowest numbered one if any.
 pub enum Status {
     Nobody,

@@ -1,0 +1,64 @@
+-- A consistent state as tests that loops make: of an up state, and of a checkpoint and a log that recovery is to start from.
+-- Assumes nothing.
+use Prim.Native.Nat.{ℕ, suc, _+_, _-_}
+use mathlib.Core.Bool.{Bool, true, _&&_}
+use mathlib.Core.List.{List, [], _∷_, map}
+use lib.Dec.{leb, eqb}
+use lib.ListN.{length, getD, take, drop}
+use Rattle.notes.specs.Lists.{every}
+use Rattle.notes.specs.Vector.{zeros, at}
+use Rattle.notes.specs.Record.{number, wellFormed}
+use Rattle.notes.specs.Message.{historyMost}
+use Rattle.notes.specs.declared.index.ServerId.{ServerId}
+use Rattle.notes.specs.declared.record.Record.{Record}
+use Rattle.rules.specs.declared.state.State.{State}
+use Rattle.rules.specs.Writes.{writesOf, countOf, inTurn}
+use Rattle.rules.specs.Sound.{vCounts, isFirst, isLast, readsOk}
+
+-- ---- up
+
+-- how many of the history's writes past the checkpoint's count are own
+abbrev pub tail : ServerId → List Record → List Record → ℕ
+tail own c h = countOf own (drop (length c) h)
+
+-- a state and the writes of its history
+unfoldable pub historyTest : State → List Record → Bool
+historyTest s h = leb (s .held) historyMost && (every (wellFormed (s .n)) h && inTurn h && vCounts s h)
+
+-- and those of its checkpoint and of its log
+unfoldable pub imageTest : State → List Record → List Record → List Record → Bool
+imageTest s h c l =
+    leb (length c) (length h)
+    && isFirst c h
+    && leb (tail (s .own) c h) (length l)
+    && eqb (s .nwrites) (tail (s .own) c h)
+    && isLast l (writesOf (s .own) h)
+
+unfoldable pub upTest : State → List Record → List Record → List Record → Bool
+upTest s h c l = historyTest s h && imageTest s h c l && readsOk s
+
+-- ---- down: N, own number, the writes of the checkpoint and of the log
+
+-- the records are each well formed, of origin own, and numbered k + 1, k + 2 and so on
+unfoldable pub ownRun : ℕ → ServerId → ℕ → List Record → Bool
+ownRun n own k [] = true
+ownRun n own k (r ∷ rs) = wellFormed n r && eqb (r .origin .0) (own .0) && eqb (number r) (k + 1) && ownRun n own (suc k) rs
+
+-- T at own of the last record, or zero where there is none
+unfoldable pub newest : ServerId → List Record → ℕ
+newest own l = at (getD (map (λ r. r .stamp) l) (length l - 1) zeros) own
+
+-- how many of the log's records the checkpoint lacks
+abbrev pub added : ServerId → List Record → List Record → ℕ
+added own c l = newest own l - countOf own c
+
+-- the log's last records go on from the checkpoint's own writes, and those before them are the last of these
+unfoldable pub logTest : ℕ → ServerId → List Record → List Record → Bool
+logTest n own c l =
+    leb (added own c l) (length l)
+    && leb (length c + added own c l) historyMost
+    && ownRun n own (countOf own c) (drop (length l - added own c l) l)
+    && isLast (take (length l - added own c l) l) (writesOf own c)
+
+unfoldable pub downTest : ℕ → ServerId → List Record → List Record → Bool
+downTest n own c l = every (wellFormed n) c && inTurn c && logTest n own c l
