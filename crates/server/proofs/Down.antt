@@ -226,24 +226,29 @@ module _ (n : ℕ) (own : ServerId) (c l : List Record) (low : own .0 < servers)
   abbrev before : ℕ
   before = length l - added own c l
 
+  -- what the tests say of the counts
+  pub tested-fits : downTest n own c l ≡ true → (added own c l ≤ length l) × (length c + added own c l ≤ historyMost)
+  unfolding downTest logTest
+  tested-fits e =
+      let y = both (every (wellFormed n) c && inTurn c) (logTest n own c l) e in
+      let x1 = both _ (isLast (take before l) (writesOf own c)) (y .1) in
+      let x2 = both _ (ownRun n own (countOf own c) (drop before l)) (x1 .0) in
+      let x3 = both (leb (added own c l) (length l)) (leb (length c + added own c l) historyMost) (x2 .0) in
+      (leb-true (added own c l) (length l) (x3 .0), leb-true (length c + added own c l) historyMost (x3 .1))
+
   parts-tested : downTest n own c l ≡ true → Parts n own c (take before l) (drop before l)
   unfolding downTest logTest isLast
   parts-tested e =
       let y = both (every (wellFormed n) c && inTurn c) (logTest n own c l) e in
       let x1 = both _ (isLast (take before l) (writesOf own c)) (y .1) in
-      let x2 = both _ (ownRun n own (countOf own c) (drop before l)) (x1 .0) in
-      let x3 = both (leb (added own c l) (length l)) (leb (length c + added own c l) historyMost) (x2 .0) in
+      let counts = leb (added own c l) (length l) && leb (length c + added own c l) historyMost in
+      let x2 = both counts (ownRun n own (countOf own c) (drop before l)) (x1 .0) in
       let x5 = both (every (wellFormed n) c) (inTurn c) (y .0) in
+      let fits = tested-fits e in
       record {
         formed = x5 .0;
         turns = in-turn c (x5 .1);
-        few =
-            omega (
-              arith,
-              length-drop before l,
-              leb-true (added own c l) (length l) (x3 .0),
-              leb-true (length c + added own c l) historyMost (x3 .1),
-            );
+        few = omega (arith, length-drop before l, fits .0, fits .1);
         run = run-numbers n own (countOf own c) (drop before l) (x2 .1);
         held = same-records (take before l) (last (length (take before l)) (writesOf own c)) (x1 .1);
       }
@@ -312,3 +317,13 @@ module _ (n : ℕ) (own : ServerId) (c l : List Record) (low : own .0 < servers)
       back e =
           subst (λ (l : List Record). wakes n own c l ≡ true) (take-append-drop before l)
           (facts-ok _ _ c _ (parts-facts n own c (take before l) (drop before l) low (parts-tested e)))
+
+  -- where the tests pass, recovery appends the log's last records, which go on from the checkpoint's own writes
+  module _ (e : downTest n own c l ≡ true) where
+    pub tested-later : later own c l ≡ drop (length l - added own c l) l
+    tested-later =
+        subst (λ (x : List Record). later own c x ≡ drop before l) (take-append-drop before l)
+        (later-run n own c (take before l) (drop before l) low (parts-tested e))
+
+    pub tested-run : Run n own (countOf own c) (drop (length l - added own c l) l)
+    tested-run = parts-tested e .run

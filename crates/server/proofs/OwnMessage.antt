@@ -3,7 +3,7 @@
 use Prim.Native.Nat.{ℕ, _+_, _*_, _/_, _≤_, _<_}
 use mathlib.Core.List.{List, [], _∷_, _++_}
 use mathlib.Core.Option.{Option, none, some, Option·map}
-use mathlib.Core.Path.{_≡_, refl, ap, sym, _∙_}
+use mathlib.Core.Path.{_≡_, ap, sym, _∙_}
 use native.Mathlib.Omega.{arith}
 use borrow.Author.Tests.{lt-ltb, le-ltb, not-false}
 use lib.Dec.{ltb}
@@ -23,18 +23,13 @@ use Rattle.rules.specs.Calls.{ownMessage, message}
 use Rattle.rules.proofs.Passed.{Head, head-known, head-right}
 use Rattle.rules.proofs.Open.{opened}
 use Rattle.rules.proofs.Places.{records-in}
+use Rattle.server.proofs.Admitting.{first-append}
 
 -- the message of k records is as long as it must be
 length-message : (n : ℕ) (s : ServerId) (k : ℕ) (b : List ℕ) → length (messageOf n s (records k b)) ≡ messageSize k
 unfolding messageOf headerOf toBytes
 length-message n s k b =
     omega (arith, length-recordBytes (records k b) (eight-counts k b), length-records k b)
-
--- the first refusal of two lists
-first-append : {A : Type 0} (a b : List (Option A)) → first (a ++ b) ≡ orElse (first a) (first b)
-first-append [] b = refl
-first-append (none ∷ a) b = first-append a b
-first-append (some r ∷ a) b = refl
 
 -- what is known of a server whose head refuses nothing
 module _ (m : Memory) (passed : none ≡ first (head m (isDown m))) where

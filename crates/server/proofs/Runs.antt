@@ -106,7 +106,7 @@ module _ (b : List ℕ) (from count : ℕ) (own : ServerId) where
 -- ---- a run of own records
 module _ (n : ℕ) (own : ServerId) (b : List ℕ) (count : ℕ) where
   module _ (i : ℕ) (h : i < count) where
-    next-record : drop i (records count b) ≡ this n count b i ∷ drop (i + 1) (records count b)
+    pub next-record : drop i (records count b) ≡ this n count b i ∷ drop (i + 1) (records count b)
     next-record =
         drop-cons (records count b) i (decode []) (rw length-records h) ∙ rw (record-at count b i h, add-one)
 

@@ -23,7 +23,7 @@ same-truth false true f g = g refl
 same-truth false false f g = refl
 
 -- ---- records are equal where their bytes are
-bytes-in : (k : ℕ) (a : List ℕ) → recordSize * k ≤ length a → AllBelow 256 a → recordBytes (records k a) ≡ take (recordSize * k) a
+pub bytes-in : (k : ℕ) (a : List ℕ) → recordSize * k ≤ length a → AllBelow 256 a → recordBytes (records k a) ≡ take (recordSize * k) a
 bytes-in k a l h =
     ap recordBytes (sym (records-in k (recordSize * k) a (omega arith)))
     ∙ bytes-of-records k (take (recordSize * k) a) (length-take-le (recordSize * k) a l) (below-take (recordSize * k) a h)

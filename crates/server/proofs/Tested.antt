@@ -348,3 +348,8 @@ module _ (s : State) (history image : List ℕ) where
   pub down-decides : s .up ≡ false → isZero s ≡ true → suits (s .n) (s .own) image ≡ sound m
   unfolding soundDown
   down-decides e z = sym (rw z) ∙ sound-down e
+
+  -- the image of a sound state that is down suits recovery
+  pub down-suits : s .up ≡ false → sound m ≡ true → suits (s .n) (s .own) image ≡ true
+  unfolding soundDown
+  down-suits e o = both (isZero s) (suits (s .n) (s .own) image) (sound-down e ∙ o) .1

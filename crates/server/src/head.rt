@@ -41,3 +41,16 @@ pub(crate) fn up_head(s: State, history: &[u8], image: &[u8]) -> Head
     }
     Head::Passed
 }
+
+// The head of recovery, which a server that is up is refused.
+pub(crate) fn down_head(s: State, history: &[u8], image: &[u8]) -> Head
+    ensures { λ r. ⌜ headRefusal r ≡ first (head (memory s (now (history .entry)) (now (image .entry))) (s .up)) ⌝ }
+{
+    if let Head::Refused(k) = sound_head(s, history, image) {
+        return Head::Refused(k);
+    }
+    if s.up {
+        return Head::Refused(Refusal::NotUp);
+    }
+    Head::Passed
+}

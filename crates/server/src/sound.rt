@@ -67,7 +67,7 @@ fn image_ok(s: State, history: &[u8], image: &[u8]) -> bool
 }
 
 // T at own of the log's last record, or zero where the log is empty.
-fn newest(image: &[u8], logged: usize, own: ServerId) -> u16
+pub(crate) fn newest(image: &[u8], logged: usize, own: ServerId) -> u16
     requires { ⌜ (imageSize ≤ length (now image)) × (logged ≡ logCount (now image)) × (logged ≤ logMost) × (own .0 < servers) ⌝ }
     ensures { λ r. ⌜ r ≡ newestOf own (log (now (image .entry))) ⌝ }
 {
@@ -82,7 +82,7 @@ fn newest(image: &[u8], logged: usize, own: ServerId) -> u16
 }
 
 // How far a number is past another.
-fn past(last: u16, kept: u16) -> usize
+pub(crate) fn past(last: u16, kept: u16) -> usize
     ensures { λ r. ⌜ (r ≡ last - kept) × (r < 65536) ⌝ }
 {
     if kept < last {

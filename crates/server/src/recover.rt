@@ -1,0 +1,69 @@
+// Recovery from an image that suits the server: the checkpoint, then the log's records that it lacks.
+ghost use mathlib.Core.Path.{_≡_};
+ghost use mathlib.Core.Bool.{true, false};
+ghost use mathlib.Core.List.{_++_};
+ghost use Prim.Native.Nat.{_+_, _-_, _*_, _≤_};
+ghost use lib.ListN.{length, take, drop, replicate};
+ghost use Rattle.notes.specs.Record.{recordSize};
+ghost use Rattle.notes.specs.Message.{historyMost};
+ghost use Rattle.rules.specs.Image.{historySize, imageSize, logMost, checkpointArea, logPlace};
+ghost use Rattle.rules.specs.Memory.{memory, blank as blankOf, holding, noting, noReads};
+ghost use Rattle.rules.specs.Recovery.{recover as recoverOf};
+ghost use Rattle.rules.specs.Sound.{suits};
+use crate::image;
+use crate::image::Image;
+use crate::sound;
+use crate::state;
+use crate::walk;
+use notes::index::ServerId;
+use notes::record::Record;
+use notes::vector::Vector;
+use rules::state::State;
+
+// The history's bytes: those of the checkpoint's records, of the log's last ones, and zeros.
+fn put_recovered(history: &mut [u8], image: &[u8], counts: Image, added: usize)
+    requires { ⌜ (historySize ≤ length (now history)) × (imageSize ≤ length (now image)) × (counts .checkpoint + added ≤ historyMost) × (added ≤ counts .log) × (counts .log ≤ logMost) ⌝ }
+    ensures { λ _. ⌜ now (history .exit) ≡ take (recordSize * counts .checkpoint) (checkpointArea (now (image .entry))) ++ take (recordSize * added) (drop (logPlace (counts .log - added)) (now (image .entry))) ++ replicate (historySize - recordSize * (counts .checkpoint + added)) 0 ++ drop historySize (now (history .entry)) ⌝ }
+{
+    let kept = Record::LEN * counts.checkpoint;
+    let lacked = Record::LEN * added;
+    let log_from = Image::LOG_AT + Record::LEN * (counts.log - added);
+    bytes::copy(
+        &image[Image::CHECKPOINT_AT..Image::CHECKPOINT_AT + kept],
+        history,
+    );
+    bytes::copy(&image[log_from..log_from + lacked], &mut history[kept..]);
+    image::zero(history, kept + lacked, Image::HISTORY_LEN);
+}
+
+// An up state with no reads and so many writes that the checkpoint lacks.
+fn woken(n: u8, own: ServerId, held: u16, vector: Vector, added: u16) -> State
+    ensures { λ r. ⌜ r ≡ noting 0 noReads added (holding held vector (blankOf true n own)) ⌝ }
+{
+    let mut s = state::blank(true, n, own);
+    s.held = held;
+    s.vector = vector;
+    s.nwrites = added;
+    s
+}
+
+// The image is known to suit: the walk counts the checkpoint's records, and the log's last number says how many it lacks.
+pub(crate) fn recover(history: &mut [u8], image: &[u8], n: u8, own: ServerId) -> State
+    requires { ⌜ (historySize ≤ length (now history)) × (imageSize ≤ length (now image)) × (suits n own (now image) ≡ true) ⌝ }
+    ensures { λ r. ⌜ memory r (now (history .exit)) (now (image .entry)) ≡ recoverOf (memory (blankOf false n own) (now (history .entry)) (now (image .entry))) ⌝ }
+{
+    let counts = image::counts(image);
+    let found = walk::walk(&image[Image::CHECKPOINT_AT..], counts.checkpoint, n);
+    let tally = found.counts;
+    let kept = tally.at(own);
+    let added = sound::past(sound::newest(image, counts.log, own), kept);
+    let held = (counts.checkpoint + added) as u16;
+    put_recovered(history, image, counts, added);
+    woken(
+        n,
+        own,
+        held,
+        tally.raised(own, kept + (added as u16)),
+        added as u16,
+    )
+}

@@ -1,0 +1,83 @@
+// A message's writes in turn: which are new, V after them, and the first refusal.
+ghost use mathlib.Core.Path.{_≡_};
+ghost use mathlib.Core.Bool.{true};
+ghost use Prim.Native.Nat.{_+_, _*_, _≤_};
+ghost use lib.ListN.{length};
+ghost use lib.Seq.{sets};
+ghost use Rattle.notes.specs.Lists.{every};
+ghost use Rattle.notes.specs.Record.{recordSize, records, recordBytes};
+ghost use Rattle.rules.specs.Update.{taken};
+ghost use Rattle.server.specs.Take.{originOk, takesOf, seen, ahead};
+use crate::head::Head;
+use notes::index::ServerId;
+use notes::raw;
+use notes::record::Record;
+use notes::vector::Vector;
+use rules::answer::Refusal;
+
+// How many writes are new, V after them, and the refusal that ended them if any.
+pub struct Takes {
+    pub new: usize,
+    pub vector: Vector,
+    pub refusal: Head,
+}
+
+pub(crate) fn in_turn(b: &[u8], count: usize, own: ServerId, v: Vector) -> Takes
+    requires { ⌜ (recordSize * count ≤ length (now b)) × (every originOk (records count (now b)) ≡ true) ⌝ }
+    ensures { λ r. ⌜ takesOf r ≡ seen (taken own v (records count (now (b .entry)))) ⌝ }
+{
+    let mut vector = v;
+    let mut new: usize = 0;
+    let mut k: usize = 0;
+    while k < count {
+        let at = Record::LEN * k;
+        let number = raw::number_of(&b[at..at + Record::LEN]);
+        let o = b[at] as usize;
+        let known = vector.counts[o];
+        k += 1;
+        if known < number {
+            if b[at] == own.0 {
+                return Takes {
+                    new,
+                    vector,
+                    refusal: Head::Refused(Refusal::OwnAhead),
+                };
+            }
+            if number - known != 1 {
+                return Takes {
+                    new,
+                    vector,
+                    refusal: Head::Refused(Refusal::Gap),
+                };
+            }
+            vector.counts[o] = number;
+            new += 1;
+        }
+    }
+    Takes {
+        new,
+        vector,
+        refusal: Head::Passed,
+    }
+}
+
+// The writes of a message that are above V at their turn, copied behind the writes that a history holds.
+pub(crate) fn append(history: &mut [u8], held: usize, b: &[u8], count: usize, v: Vector)
+    requires { ⌜ (recordSize * count ≤ length (now b)) × (every originOk (records count (now b)) ≡ true) × (recordSize * (held + length (ahead v (records count (now b)))) ≤ length (now history)) ⌝ }
+    ensures { λ _. ⌜ now (history .exit) ≡ sets (now (history .entry)) (recordSize * held) (recordBytes (ahead v (records count (now (b .entry))))) ⌝ }
+{
+    let mut vector = v;
+    let mut end = Record::LEN * held;
+    let mut k: usize = 0;
+    while k < count {
+        let at = Record::LEN * k;
+        let number = raw::number_of(&b[at..at + Record::LEN]);
+        let o = b[at] as usize;
+        k += 1;
+        if vector.counts[o] < number {
+            vector.counts[o] = number;
+            bytes::copy(&b[at..at + Record::LEN], &mut history[end..]);
+            end += Record::LEN;
+        }
+    }
+}
