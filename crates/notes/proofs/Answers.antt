@@ -2,13 +2,13 @@
 -- Assumes nothing.
 use Prim.Native.Nat.{ℕ, _≤_}
 use mathlib.Core.Bool.{Bool, true, false, cond}
-use mathlib.Core.List.{List}
+use mathlib.Core.List.{List, [], _∷_, _++_}
 use mathlib.Core.Option.{Option, none, some}
 use mathlib.Core.Path.{_≡_, refl, sym, ap, _∙_}
 use native.Mathlib.Omega.{arith}
 use lib.Dec.{eqb}
 use lib.ListN.{length, getD, drop, length-append}
-use Rattle.notes.specs.Reply.{Reply, done, refused, Filled}
+use Rattle.notes.specs.Reply.{Reply, done, refused, Filled, orElse, first}
 use Rattle.notes.specs.Message.{refusalNumber, headerSaid, headerValues, messageOk, checkedReply, check, writtenReply, filled, fillUnless}
 use Rattle.notes.specs.declared.message.Header.{Header}
 use Rattle.notes.specs.declared.message.Refusal.{Refusal}
@@ -21,6 +21,12 @@ use Rattle.notes.specs.declared.message.Written.the-variants as written
 -- what has a way back is known by its image
 pub known-by : {A B : Type 0} (f : A → B) (back : B → A) → ((a : A) → back (f a) ≡ a) → (a b : A) → f a ≡ f b → a ≡ b
 known-by f back same a b e = sym (same a) ∙ ap back e ∙ same b
+
+-- the first of two lists, one behind the other
+pub first-append : {A : Type 0} (a b : List (Option A)) → first (a ++ b) ≡ orElse (first a) (first b)
+first-append [] b = refl
+first-append (none ∷ a) b = first-append a b
+first-append (some x ∷ a) b = refl
 
 abbrev refusalOf : ℕ → Refusal
 refusalOf k = cond (eqb k 1) OutOfRange (cond (eqb k 6) Malformed TooShort)

@@ -17,7 +17,7 @@ use Rattle.notes.specs.Record.{numberMost, stampOk}
 use Rattle.notes.specs.Raw.{limitAt, limitsOf}
 use Rattle.notes.specs.declared.index.ServerId.{ServerId}
 use Rattle.notes.specs.declared.vector.Vector.{Vector}
-use Rattle.notes.proofs.Lists.{take-more, copied-more, every-more, any-more, sets-append, flatMap-append, length-zipWith, getD-zipWith}
+use Rattle.notes.proofs.Lists.{neither, take-more, copied-more, every-more, any-more, sets-append, flatMap-append, length-zipWith, getD-zipWith}
 use Rattle.notes.proofs.Numbers.{AllBelow, below-drop, from-below, from-agree, from-to, to-from, length-toBytes}
 use Rattle.notes.proofs.Pieces.{Each, each-of, length-pieces, piece-at, pieces-join, pieces-split, length-flatMap}
 
@@ -153,10 +153,6 @@ unfolding raised
 at-raised-other v s o k h = getD-set-other (v .counts) (s .0) (o .0) (max (at v s) k) 0 h
 
 -- ---- behind at some position: not so exactly if no count is below
-neither : (a b : Bool) → (a || b) ≡ false → (a ≡ false) × (b ≡ false)
-neither true b e = (e, cc)
-neither false b e = (refl, e)
-
 none-below : (v w : List ℕ) → length v ≡ length w → any (λ below. below) (zipWith ltb v w) ≡ false → (i : ℕ) → getD w i 0 ≤ getD v i 0
 unfolding any zipWith
 none-below [] [] l e i = omega arith

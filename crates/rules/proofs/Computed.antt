@@ -1,6 +1,5 @@
 -- The definitions opened all at once: where this is unfolded, a script is computed.
 -- Assumes nothing.
-use Prim.Native.Nat.{_-_}
 use mathlib.Core.Bool.{Bool}
 use mathlib.Core.List.{flatMap, zipWith}
 use Rattle.notes.specs.Lists.{every, any, same, above}

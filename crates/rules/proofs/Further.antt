@@ -115,12 +115,12 @@ full n =
     (headerOf 2 (server 0) 0 64 ++ replicate historySize 0 ++ recordBytes (mine 64))
 
 -- 64 in the log: 5; 256 held: 4, even if the log is full
-full-log : T (runs (full 0 ∷ []) (turn (write5 0 7) (refusal 5) (leaves (64 ∷ 0 ∷ []) 0 64 [] 64 (mine 64)) ∷ []))
+pub full-log : T (runs (full 0 ∷ []) (turn (write5 0 7) (refusal 5) (leaves (64 ∷ 0 ∷ []) 0 64 [] 64 (mine 64)) ∷ []))
 unfolding computed
 full-log = tt
 
 -- 7 comes before 4 where an update would also take the history past 256
-full-history :
+pub full-history :
     let left = leaves (64 ∷ 192 ∷ []) 0 64 [] 64 (mine 64 ++ theirs 1 192) in
     T
     (runs (full 192 ∷ [])

@@ -10,7 +10,6 @@ use borrow.Author.Tests.{not-true, ltb-true, ltb-false}
 use lib.Dec.{ltb}
 use lib.ListN.{length, getD, take, drop}
 use Rattle.notes.specs.Lists.{every}
-use Rattle.notes.specs.Record.{number}
 use Rattle.notes.proofs.Lists.{both}
 use Rattle.rules.specs.Writes.{keepIf, keep, counting}
 

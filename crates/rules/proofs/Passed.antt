@@ -1,10 +1,10 @@
 -- What is known where no refusal is given.
 -- Assumes nothing.
 use Prim.Native.Nat.{ℕ, _+_, _≤_, _<_}
-use mathlib.Core.Bool.{Bool, true, false, _&&_, _||_, not, true≢false}
+use mathlib.Core.Bool.{Bool, true, false, _&&_, not, true≢false}
 use mathlib.Core.List.{List, [], _∷_, _++_}
 use mathlib.Core.Option.{Option, none, some, Option·some-ne-none}
-use mathlib.Core.Path.{_≡_, refl, sym}
+use mathlib.Core.Path.{_≡_, refl, sym, _∙_}
 use borrow.Author.Tests.{ltb-true, ltb-false, leb-true, leb-false, eqb-true, eqb-false, not-true, not-false}
 use lib.Dec.{ltb, leb, eqb}
 use lib.ListN.{length}
@@ -16,7 +16,8 @@ use Rattle.notes.specs.Message.{historyMost, messageOk, messageN, messageSender
 use Rattle.notes.specs.declared.index.PhoneId.{PhoneId}
 use Rattle.notes.specs.declared.index.ServerId.{ServerId}
 use Rattle.notes.specs.declared.vector.Vector.{Vector}
-use Rattle.notes.proofs.Lists.{both}
+use Rattle.notes.proofs.Answers.{first-append}
+use Rattle.notes.proofs.Lists.{both, neither}
 use Rattle.rules.specs.declared.answer.Refusal.{Refusal}
 use Rattle.rules.specs.declared.answer.Refusal.the-variants.{OutOfRange, NotUp, NotYet, HistoryFull, LogFull, Unsound, TooShort}
 use Rattle.rules.specs.declared.event.Request.{Request}
@@ -38,10 +39,8 @@ pub none-first : {A : Type 0} (x : Option A) (rest : List (Option A)) → first 
 none-first none rest e = (refl, e)
 none-first (some r) rest e = absurd (Option·some-ne-none r e)
 
-first-append : {A : Type 0} (a b : List (Option A)) → first (a ++ b) ≡ none → (first a ≡ none) × (first b ≡ none)
-first-append [] b e = (refl, e)
-first-append (none ∷ a) b e = first-append a b e
-first-append (some r ∷ a) b e = absurd (Option·some-ne-none r e)
+none-append : {A : Type 0} (a b : List (Option A)) → first (a ++ b) ≡ none → (first a ≡ none) × (first b ≡ none)
+none-append a b e = none-first (first a) b (sym (first-append a b) ∙ e)
 
 -- a call refuses or not
 pub unless-either :
@@ -59,11 +58,6 @@ pub unless-keeps :
     → (r ≡ none → P (e .after))
     → P (unless r m e .after)
 unless-keeps P r m e h k = unless-either (λ e. P (e .after)) r m e (λ x. h) k
-
--- ---- either of two
-neither : (a b : Bool) → (a || b) ≡ false → (a ≡ false) × (b ≡ false)
-neither true b e = (e, cc)
-neither false b e = (refl, e)
 
 -- ---- the head that every call on a server has
 pub record Head (m : Memory) : Type 0 where
@@ -146,7 +140,7 @@ pub asked-cut :
     → first (requestRefusals m j i q v ++ cutRefusal m i q k ∷ []) ≡ none
     → Asked m j i q v × (k ≤ length (plan m i q))
 asked-cut m j i q v k e =
-    let x = first-append (requestRefusals m j i q v) (cutRefusal m i q k ∷ []) e in
+    let x = none-append (requestRefusals m j i q v) (cutRefusal m i q k ∷ []) e in
     let y = ungiven (not (leb k (length (plan m i q)))) OutOfRange [] (x .1) in
     (asked m j i q v (x .0), leb-true k (length (plan m i q)) (not-false _ (y .0)))
 

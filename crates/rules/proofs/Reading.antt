@@ -25,7 +25,7 @@ use Rattle.rules.specs.Memory.{Memory, memory, inCR, rwWith, downOf, not
 use Rattle.rules.specs.Image.{checkpointCount, checkpoint, log}
 use Rattle.rules.specs.Sound.{sound}
 use Rattle.rules.specs.Stores.{Store, stored, checkpointPlan}
-use Rattle.rules.specs.Request.{noted, cleared, served}
+use Rattle.rules.specs.Request.{noted, cleared}
 use Rattle.rules.proofs.Phones.{reads-cleared, reads-noted}
 use Rattle.rules.proofs.Stores.{Shows, shows-counts, length-checkpointPlan, checkpoint-cut, checkpoint-counted, checkpoint-all}
 use Rattle.rules.proofs.Sound.{Facts, kept-few, noted-facts, kept-all, log-empty}

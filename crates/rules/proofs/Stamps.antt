@@ -1,6 +1,6 @@
 -- The vector that writes give is the T of a well formed record.
 -- Assumes nothing.
-use Prim.Native.Nat.{ℕ, zero, _+_, _≤_}
+use Prim.Native.Nat.{ℕ, _+_, _≤_}
 use mathlib.Core.Bool.{Bool, true, false, not}
 use mathlib.Core.List.{List, []}
 use mathlib.Core.Path.{_≡_, refl, ap, _∙_}

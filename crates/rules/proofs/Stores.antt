@@ -98,14 +98,14 @@ pub record Shows (n : ℕ) (own : ServerId) (i : List ℕ) (c l : List Record) :
   pub logged : log i ≡ l
 
 -- an image has the header of these counts
-record Laid (n : ℕ) (own : ServerId) (i : List ℕ) (kept logged : ℕ) : Type 0 where
+pub record Laid (n : ℕ) (own : ServerId) (i : List ℕ) (kept logged : ℕ) : Type 0 where
   pub server : serverOk n own ≡ true
   pub fewKept : kept ≤ historyMost
   pub fewLogged : logged ≤ logMost
   pub bytes : take headerSize i ≡ headerOf n own kept logged
 
 -- a right header is that of the counts that it says
-laid-of : (n : ℕ) (own : ServerId) (i : List ℕ) → headerOk n own i ≡ true → Laid n own i (checkpointCount i) (logCount i)
+pub laid-of : (n : ℕ) (own : ServerId) (i : List ℕ) → headerOk n own i ≡ true → Laid n own i (checkpointCount i) (logCount i)
 unfolding headerOk
 laid-of n own i h =
     let x = both _ _ h in

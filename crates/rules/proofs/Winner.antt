@@ -1,7 +1,7 @@
 -- Laws of a cell's winner: it is a write to the cell that no other write to the cell beats.
 -- Assumes nothing.
 use Prim.Native.Nat.{ℕ, _≤_}
-use mathlib.Core.Bool.{Bool, true, false, _&&_, _||_, not, cond}
+use mathlib.Core.Bool.{Bool, true, false, _&&_, not, cond}
 use mathlib.Core.List.{List, [], _∷_, List·Memᴰ, List·Memᴰ·head, List·Memᴰ·tail, List·Memᴰ·not-nil}
 use mathlib.Core.Option.{none, some, Option·some-injective, Option·none-ne-some}
 use mathlib.Core.Path.{_≡_, refl, sym, subst⁻¹}
@@ -11,7 +11,7 @@ use lib.Dec.{ltb, eqb}
 use Rattle.notes.specs.Lists.{every, above}
 use Rattle.notes.specs.Record.{beats, rank}
 use Rattle.notes.specs.declared.record.Record.{Record}
-use Rattle.notes.proofs.Lists.{above-differs, above-same}
+use Rattle.notes.proofs.Lists.{above-differs, above-same, neither}
 use Rattle.rules.specs.Writes.{keepIf, keep, best, winner}
 use Rattle.rules.proofs.Lists.{keep-none}
 
@@ -39,13 +39,9 @@ above-turned (a ∷ x) (b ∷ y) h = go (above-turned x y) (eqb a b) refl
         rw (above-differs b a y x (λ e. d (sym e))) (le-ltb a b (omega arith))
 
 -- if a list is not above another, its first number is at most the other's
-neither : (s t : Bool) → (s || t) ≡ false → s ≡ false
-neither true t h = h
-neither false t h = refl
-
 first-most : (a b : ℕ) (x y : List ℕ) → above (a ∷ x) (b ∷ y) ≡ false → a ≤ b
 unfolding above
-first-most a b x y h = ltb-false b a (neither (ltb b a) _ h)
+first-most a b x y h = ltb-false b a (neither (ltb b a) _ h .0)
 
 -- not above the second, which is not above the third: not above the third
 above-through : (x y z : List ℕ) → above x y ≡ false → above y z ≡ false → above x z ≡ false

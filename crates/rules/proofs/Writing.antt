@@ -21,7 +21,7 @@ use Rattle.rules.specs.Memory.{Memory, memory, downOf, noting, holding, 
 use Rattle.rules.specs.Image.{logCount, checkpoint, log}
 use Rattle.rules.specs.Sound.{sound}
 use Rattle.rules.specs.Stores.{stored, writePlan}
-use Rattle.rules.specs.Request.{newVector, newRecord, served}
+use Rattle.rules.specs.Request.{newVector, newRecord}
 use Rattle.rules.proofs.Phones.{reads-more}
 use Rattle.rules.proofs.Places.{records-appended, records-one}
 use Rattle.rules.proofs.Stores.{Shows, length-writePlan, write-cut, write-all}

@@ -27,8 +27,8 @@ use Rattle.rules.specs.Update.{Turn, skipped, appended, refuses, atTurn, vector
 use Rattle.rules.proofs.Lists.{every-drop, every-weaker}
 use Rattle.rules.proofs.Sound.{formed-origin}
 use Rattle.server.specs.Take.{originOk, Seen, seen, ahead}
-use Rattle.server.proofs.Walks.{this, origin, origin-at}
-use Rattle.server.proofs.Runs.{next-record, part-size}
+use Rattle.sound.proofs.Walks.{this, origin, origin-at}
+use Rattle.sound.proofs.Runs.{next-record, part-size}
 
 -- records well formed for some of the eight have origins of the eight
 pub formed-origins : (n : ℕ) (rs : List Record) → n ≤ servers → every (wellFormed n) rs ≡ true → every originOk rs ≡ true
@@ -170,9 +170,9 @@ module _ (b : List ℕ) (count k : ℕ) where
                   add-zero,
                 )
 
-            pub appends-at : number r ≡ known + 1 → (new : ℕ) → seenBehind new left ≡ seenBehind (new + 1) (taken own after rest)
+            pub appends-at : number r ≡ known + 1 → (new : ℕ) → seenBehind new left ≡ seenBehind (new + 1) (taken own (raised v (r .origin) (number r)) rest)
             appends-at e new =
-                rw (next h, ← raised-at high)
+                rw (next h)
                 (appends own v r rest (omega (arith, counted)) differs (omega (arith, counted)) new)
 
 -- ---- the bytes of new writes

@@ -32,7 +32,7 @@ use Rattle.rules.specs.Update.{Taken, takenFrom, updated, suitable, updateRefus
 use Rattle.rules.proofs.Passed.{Head, ungiven, head-known, head-right, head-rest}
 use Rattle.rules.proofs.Open.{opened}
 use Rattle.server.specs.Take.{originOk, ahead, arrivalRefusals}
-use Rattle.server.proofs.Admitting.{first-append}
+use Rattle.notes.proofs.Answers.{first-append}
 use Rattle.server.proofs.Taking.{formed-origins, taken-ahead}
 
 empty : {A : Type 0} (l : List A) → length l ≡ 0 → l ≡ []

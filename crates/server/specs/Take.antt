@@ -18,7 +18,7 @@ use Rattle.rules.specs.declared.answer.Refusal.the-variants.{OutOfRange, Unsoun
 use Rattle.rules.specs.Memory.{Memory}
 use Rattle.rules.specs.Refusals.{head, isDown, elsewhere}
 use Rattle.rules.specs.Update.{Taken, suitable}
-use Rattle.server.specs.Head.{headRefusal}
+use Rattle.sound.specs.Head.{headRefusal}
 use Rattle.server.specs.declared.take.Takes.{Takes}
 
 -- a record's origin is one of the eight

@@ -3,13 +3,13 @@ ghost use mathlib.Core.Path.{_≡_};
 ghost use Rattle.rules.specs.Memory.{memory};
 ghost use Rattle.rules.specs.Answer.{effectOf};
 ghost use Rattle.rules.specs.Step.{cut as cutOf};
-use crate::head;
-use crate::head::Head;
-use crate::state;
 use notes::index::ServerId;
 use rules::answer::Outcome;
 use rules::answer::Refusal;
 use rules::state::State;
+use sound::head;
+use sound::head::Head;
+use sound::state;
 
 pub(crate) fn cut(s: State, at: ServerId, history: &[u8], image: &[u8]) -> Outcome
     ensures { λ r. ⌜ effectOf r (now (history .entry)) (now (image .entry)) ≡ cutOf (memory s (now (history .entry)) (now (image .entry))) at ⌝ }

@@ -1,25 +1,7 @@
-// The server's calls. Each does its own checking and meets the rules of the crate `rules` for every input.
-mod admit;
+// The step of a server: requests, cuts, updates and recoveries. It meets the rules for every input.
 mod cut;
-mod head;
-pub mod image;
-pub mod judge;
-pub mod look_up;
-pub mod message;
-mod read;
-mod reads;
 mod recover;
 mod recovery;
-pub mod refusal;
-mod request;
-mod sound;
-pub mod start;
-pub mod state;
-pub mod status;
 pub mod step;
-mod stores;
 mod take;
 mod update;
-mod walk;
-mod winner;
-mod write;

@@ -10,15 +10,13 @@ ghost use Rattle.rules.specs.Image.{historySize, imageSize, logMost, checkpoint
 ghost use Rattle.rules.specs.Memory.{memory, blank as blankOf, holding, noting, noReads};
 ghost use Rattle.rules.specs.Recovery.{recover as recoverOf};
 ghost use Rattle.rules.specs.Sound.{suits};
-use crate::image;
-use crate::image::Image;
-use crate::sound;
-use crate::state;
-use crate::walk;
 use notes::index::ServerId;
 use notes::record::Record;
 use notes::vector::Vector;
 use rules::state::State;
+use sound::image::Image;
+use sound::raw;
+use sound::state;
 
 // The history's bytes: those of the checkpoint's records, of the log's last ones, and zeros.
 fn put_recovered(history: &mut [u8], image: &[u8], counts: Image, added: usize)
@@ -33,7 +31,7 @@ fn put_recovered(history: &mut [u8], image: &[u8], counts: Image, added: usize)
         history,
     );
     bytes::copy(&image[log_from..log_from + lacked], &mut history[kept..]);
-    image::zero(history, kept + lacked, Image::HISTORY_LEN);
+    raw::zero(history, kept + lacked, Image::HISTORY_LEN);
 }
 
 // An up state with no reads and so many writes that the checkpoint lacks.
@@ -52,11 +50,11 @@ pub(crate) fn recover(history: &mut [u8], image: &[u8], n: u8, own: ServerId) ->
     requires { ⌜ (historySize ≤ length (now history)) × (imageSize ≤ length (now image)) × (suits n own (now image) ≡ true) ⌝ }
     ensures { λ r. ⌜ memory r (now (history .exit)) (now (image .entry)) ≡ recoverOf (memory (blankOf false n own) (now (history .entry)) (now (image .entry))) ⌝ }
 {
-    let counts = image::counts(image);
-    let found = walk::walk(&image[Image::CHECKPOINT_AT..], counts.checkpoint, n);
+    let counts = raw::counts(image);
+    let found = raw::walk(&image[Image::CHECKPOINT_AT..], counts.checkpoint, n);
     let tally = found.counts;
     let kept = tally.at(own);
-    let added = sound::past(sound::newest(image, counts.log, own), kept);
+    let added = raw::past(raw::newest(image, counts.log, own), kept);
     let held = (counts.checkpoint + added) as u16;
     put_recovered(history, image, counts, added);
     woken(

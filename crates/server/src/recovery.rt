@@ -3,14 +3,14 @@ ghost use mathlib.Core.Path.{_≡_};
 ghost use Rattle.rules.specs.Memory.{memory};
 ghost use Rattle.rules.specs.Answer.{effectOf};
 ghost use Rattle.rules.specs.Step.{recovery as recoveryOf};
-use crate::head;
-use crate::head::Head;
 use crate::recover;
-use crate::state;
 use notes::index::ServerId;
 use rules::answer::Outcome;
 use rules::answer::Refusal;
 use rules::state::State;
+use sound::head;
+use sound::head::Head;
+use sound::state;
 
 pub(crate) fn recovery(s: State, at: ServerId, history: &mut [u8], image: &[u8]) -> Outcome
     ensures { λ r. ⌜ effectOf r (now (history .exit)) (now (image .entry)) ≡ recoveryOf (memory s (now (history .entry)) (now (image .entry))) at ⌝ }

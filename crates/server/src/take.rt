@@ -1,25 +1,35 @@
 // A message's writes in turn: which are new, V after them, and the first refusal.
 ghost use mathlib.Core.Path.{_≡_};
 ghost use mathlib.Core.Bool.{true};
-ghost use Prim.Native.Nat.{_+_, _*_, _≤_};
-ghost use lib.ListN.{length};
+ghost use Prim.Native.Nat.{_+_, _*_, _≤_, _<_};
+ghost use lib.ListN.{length, getD};
 ghost use lib.Seq.{sets};
 ghost use Rattle.notes.specs.Lists.{every};
-ghost use Rattle.notes.specs.Record.{recordSize, records, recordBytes};
+ghost use Rattle.notes.specs.Index.{servers};
+ghost use Rattle.notes.specs.Vector.{raised};
+ghost use Rattle.notes.specs.Record.{recordSize, decode, number, records, recordBytes};
 ghost use Rattle.rules.specs.Update.{taken};
 ghost use Rattle.server.specs.Take.{originOk, takesOf, seen, ahead};
-use crate::head::Head;
 use notes::index::ServerId;
 use notes::raw;
 use notes::record::Record;
 use notes::vector::Vector;
 use rules::answer::Refusal;
+use sound::head::Head;
 
 // How many writes are new, V after them, and the refusal that ended them if any.
 pub struct Takes {
     pub new: usize,
     pub vector: Vector,
     pub refusal: Head,
+}
+
+// V after a new write: raised at its origin only.
+fn after(v: Vector, write: &[u8]) -> Vector
+    requires { ⌜ (recordSize ≤ length (now write)) × (getD (now write) 0 0 < servers) ⌝ }
+    ensures { λ r. ⌜ r ≡ (let w = decode (now (write .entry)) in raised v (w .origin) (number w)) ⌝ }
+{
+    v.raised(ServerId(write[Record::ORIGIN]), raw::number_of(write))
 }
 
 pub(crate) fn in_turn(b: &[u8], count: usize, own: ServerId, v: Vector) -> Takes
@@ -50,7 +60,7 @@ pub(crate) fn in_turn(b: &[u8], count: usize, own: ServerId, v: Vector) -> Takes
                     refusal: Head::Refused(Refusal::Gap),
                 };
             }
-            vector.counts[o] = number;
+            vector = after(vector, &b[at..at + Record::LEN]);
             new += 1;
         }
     }

@@ -7,11 +7,8 @@ ghost use Rattle.notes.specs.Reply.{first};
 ghost use Rattle.rules.specs.Memory.{memory, holding};
 ghost use Rattle.rules.specs.Answer.{effectOf};
 ghost use Rattle.rules.specs.Update.{suitable as suitableOf, update as updateOf};
-ghost use Rattle.server.specs.Head.{headRefusal};
+ghost use Rattle.sound.specs.Head.{headRefusal};
 ghost use Rattle.server.specs.Take.{arrivalRefusals};
-use crate::head;
-use crate::head::Head;
-use crate::state;
 use crate::take;
 use notes::index::ServerId;
 use notes::message;
@@ -22,6 +19,9 @@ use notes::vector::Vector;
 use rules::answer::Outcome;
 use rules::answer::Refusal;
 use rules::state::State;
+use sound::head;
+use sound::head::Head;
+use sound::state;
 
 // The message is right, of the server's own N, and from another server.
 fn suitable(s: State, message: &[u8]) -> bool

@@ -4,8 +4,8 @@ use mathlib.Core.Path.{sym, ap, _∙_}
 use Rattle.rules.specs.Memory.{memory}
 use Rattle.rules.specs.Refusals.{isDown}
 use Rattle.rules.specs.Step.{cut}
-use Rattle.server.specs.Head.{headRefusal}
-use Rattle.server.proofs.Admitting.{plain-refused, plain-elsewhere, plain-passed}
+use Rattle.sound.specs.Head.{headRefusal}
+use Rattle.server.proofs.Plain.{plain-refused, plain-elsewhere, plain-passed}
 use borrow.Author.Needs.{needs}
 use Rattle.server.proofs.cut.cut.Statement.{statement}
 use Rattle.server.proofs.cut.cut.Tie as tie

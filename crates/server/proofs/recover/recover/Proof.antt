@@ -9,12 +9,12 @@ use Rattle.notes.specs.Message.{historyMost}
 use Rattle.notes.specs.declared.vector.Vector.{Vector}
 use Rattle.rules.specs.Image.{checkpointAt, checkpointCount, logCount, checkpoint, log}
 use Rattle.rules.specs.Writes.{countOf, tally}
-use Rattle.server.specs.Tests.{added}
-use Rattle.server.specs.declared.image.Image.{Image}
-use Rattle.server.specs.declared.walk.Tally.{Tally}
+use Rattle.sound.specs.Tests.{added}
+use Rattle.sound.specs.declared.image.Image.{Image}
+use Rattle.sound.specs.declared.raw.Tally.{Tally}
 use Rattle.rules.proofs.Writes.{at-tally}
-use Rattle.server.proofs.Runs.{rest}
-use Rattle.server.proofs.Tested.{Limits}
+use Rattle.sound.proofs.Runs.{rest}
+use Rattle.sound.proofs.Tested.{Limits}
 use Rattle.server.proofs.Recovering.{suited, suited-counts, suited-fits, suited-few, recover-made}
 use borrow.Author.Needs.{needs}
 use Rattle.server.proofs.recover.recover.Statement.{statement}

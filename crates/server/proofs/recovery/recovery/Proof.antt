@@ -7,9 +7,9 @@ use Rattle.rules.specs.Recovery.{recover}
 use Rattle.rules.specs.Answer.{finished}
 use Rattle.rules.specs.Step.{recovery}
 use Rattle.rules.proofs.Passed.{head-known, head-right}
-use Rattle.server.specs.Head.{headRefusal}
-use Rattle.server.proofs.Tested.{down-suits}
-use Rattle.server.proofs.Admitting.{plain-refused, plain-elsewhere, plain-passed}
+use Rattle.sound.specs.Head.{headRefusal}
+use Rattle.sound.proofs.Tested.{down-suits}
+use Rattle.server.proofs.Plain.{plain-refused, plain-elsewhere, plain-passed}
 use borrow.Author.Needs.{needs}
 use Rattle.server.proofs.recovery.recovery.Statement.{statement}
 use Rattle.server.proofs.recovery.recovery.Tie as tie

@@ -9,7 +9,7 @@ use lib.Seq.{sets, length-sets}
 use Rattle.notes.specs.Record.{recordSize, records, recordBytes}
 use Rattle.notes.proofs.Lists.{put-rest}
 use Rattle.server.specs.Take.{ahead}
-use Rattle.server.proofs.Walks.{part-origin}
+use Rattle.sound.proofs.Walks.{part-origin}
 use Rattle.server.proofs.Taking.{origin-listed, Copied, copied-all, copied-skips, copied-room, copied-more}
 use borrow.Author.Needs.{needs}
 use Rattle.server.proofs.take.append.Statement.{statement}

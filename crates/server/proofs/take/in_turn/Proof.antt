@@ -8,7 +8,7 @@ use lib.ListN.{length-take, length-drop}
 use Rattle.notes.specs.Record.{records}
 use Rattle.rules.specs.Update.{taken}
 use Rattle.server.specs.Take.{seen}
-use Rattle.server.proofs.Walks.{part-origin}
+use Rattle.sound.proofs.Walks.{part-origin}
 use Rattle.server.proofs.Taking.{seenBehind, left, origin-listed, none-taken, all-taken, skips-at, own-at, gap-at, appends-at}
 use borrow.Author.Needs.{needs}
 use Rattle.server.proofs.take.in_turn.Statement.{statement}
@@ -63,21 +63,20 @@ returns-2 c =
     let m = rw add-sub-cancel-left at (c .before .before .before .before .before .before .before .number-of .ensures) in
     gap-at (a .b .now) (a .count) (l .k) (l .vector) (a .own) (c .before .before .before .before .before .before .before .before .before .loop-test .taken) (rw m at (c .before .before .before .before .if1 .taken)) (c .before .if2 .left) (λ q. c .if3 .taken (omega (arith, m, q))) (l .new) ∙ sym (l .inv .2)
 
-mul-vector : tie.Need-mul-vector Inv-loop μ-loop
-mul-vector c =
-    record { fits = omega (arith, c .before .before .before .before .before .before .before .before .before .before .before .shared-slice-known .given (28 * c .before .before .before .before .before .before .before .before .before .before .loop .k) .fits) }
-
-element-write-vector : tie.Need-element-write-vector Inv-loop μ-loop
-element-write-vector c =
-    let a = c .before .before .before .before .before .before .before .before .before .before .before .before .args in
-    origin-listed (a .b .now) (a .count) (c .before .before .before .before .before .before .before .before .before .before .loop .k) (c .before .before .before .before .before .before .before .before .before .before .before .before .pre .1) (c .before .before .before .before .before .before .before .before .before .loop-test .taken)
+after-requires : tie.Need-after-requires Inv-loop μ-loop
+after-requires c κs =
+    let s = c .before .before .before .before .before .before .before .before .before .before .before .before .before in
+    let k = c .before .before .before .before .before .before .before .before .before .before .before .loop .k in
+    let low = origin-listed (s .args .b .now) (s .args .count) k (s .pre .1) (c .before .before .before .before .before .before .before .before .before .before .loop-test .taken) in
+    (simp (add-sub-cancel-left, length-take, length-drop) (omega arith), rw (add-sub-cancel-left, part-origin (s .args .b .now) k) low)
 
 loop-again : tie.Need-loop-again Inv-loop μ-loop
 loop-again c =
-    let a = c .before .before .before .before .before .before .before .before .before .before .before .before .args in
-    let l = c .before .before .before .before .before .before .before .before .before .before .loop in
-    let m = rw add-sub-cancel-left at (c .before .before .before .before .before .before .before .number-of .ensures) in
-    (search needs, omega (arith, l .inv .1), rw m (l .inv .2 ∙ appends-at (a .b .now) (a .count) (l .k) (l .vector) (a .own) (c .before .before .before .before .before .before .before .before .before .loop-test .taken) (rw m at (c .before .before .before .before .if1 .taken)) (c .before .if2 .left) (omega (arith, m, c .if3 .left, c .before .before .before .before .if1 .taken)) (l .new)))
+    let a = c .before .before .before .before .before .before .before .before .before .before .before .before .before .before .args in
+    let l = c .before .before .before .before .before .before .before .before .before .before .before .before .loop in
+    let m = rw add-sub-cancel-left at (c .before .before .before .before .before .before .before .before .before .number-of .ensures) in
+    let raised = rw add-sub-cancel-left at (c .after .ensures) in
+    (search needs, omega (arith, l .inv .1), rw raised (l .inv .2 ∙ appends-at (a .b .now) (a .count) (l .k) (l .vector) (a .own) (c .before .before .before .before .before .before .before .before .before .before .before .loop-test .taken) (rw m at (c .before .before .before .before .before .before .if1 .taken)) (c .before .before .before .if2 .left) (omega (arith, m, c .before .before .if3 .left, c .before .before .before .before .before .before .if1 .taken)) (l .new)))
 
 loop-again-2 : tie.Need-loop-again-2 Inv-loop μ-loop
 loop-again-2 c =
@@ -114,8 +113,11 @@ in-turn-spec =
     returns
     sub-if3
     returns-2
-    mul-vector
-    element-write-vector
+    (search needs)
+    (search needs)
+    (search needs)
+    (search needs)
+    after-requires
     (search needs)
     (search needs)
     loop-again

@@ -1,0 +1,27 @@
+-- Any two outcomes that meet a request's statement are equal, about the very clauses of its contract.
+-- Assumes nothing.
+use Prim.Native.Nat.{ℕ}
+use mathlib.Core.List.{List, []}
+use denote.Ref.{now}
+use Rattle.notes.proofs.Unique.{One}
+use Rattle.rules.specs.declared.answer.Outcome.{Outcome}
+use Rattle.rules.specs.declared.event.What.the-variants as what
+use Rattle.rules.specs.Step.{step}
+use Rattle.rules.proofs.One.{step-one}
+use Rattle.requests.proofs.request.request.Reads as request
+use Rattle.requests.proofs.request.request_cut.Reads as request-cut
+
+-- with each byte of history and image
+pub requests : One {O = Outcome × List ℕ × List ℕ} request.Post (λ k r s. (r, now (s .1 .1 .1 .1 .1 .0), now (s .1 .1 .1 .1 .1 .1 .0)))
+unfolding step
+requests k a x y s t p q =
+    let e = step-one x y _ _ _ _ _ (record { server = a .1 .0; what = what.Request (a .1 .1 .0) (a .1 .1 .1 .0) }) _ [] p q in
+    λ i. (e .0 i, e .1 i, e .2 i)
+
+-- a request cut leaves the history's bytes
+pub requests-cut : One {O = Outcome × List ℕ} request-cut.Post (λ k r s. (r, now (s .1 .1 .1 .1 .1 .1 .1 .0)))
+unfolding step
+requests-cut k a x y s t p q =
+    let e =
+    step-one x y _ _ _ _ _ (record { server = a .1 .0; what = what.RequestCut (a .1 .1 .0) (a .1 .1 .1 .0) (a .1 .1 .1 .1 .0) }) _ [] p q in
+    λ i. (e .0 i, e .2 i)

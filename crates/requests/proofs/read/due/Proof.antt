@@ -1,0 +1,15 @@
+-- `read::due` meets its contract.
+-- Assumes nothing.
+use Rattle.rules.specs.Request.{due}
+use borrow.Author.Needs.{needs}
+use Rattle.requests.proofs.read.due.Statement.{statement}
+use Rattle.requests.proofs.read.due.Tie as tie
+
+returns : tie.Need-returns
+unfolding due
+returns c =
+    λ cell. rw (c .before .before .is-in .ensures)
+
+pub due-spec : {M : Type 1} → statement M
+due-spec =
+    tie.close (tie.spec (search needs) (search needs) (search needs) (search needs) returns)

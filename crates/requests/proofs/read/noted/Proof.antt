@@ -1,0 +1,22 @@
+-- `read::noted` meets its contract: as it was, or with the phone's bit and count.
+-- Assumes nothing.
+use mathlib.Core.Path.{sym, _∙_}
+use Rattle.rules.specs.Request.{noted}
+use borrow.Author.Needs.{needs}
+use Rattle.requests.proofs.read.noted.Statement.{statement}
+use Rattle.requests.proofs.read.noted.Tie as tie
+
+returns : tie.Need-returns
+unfolding noted
+returns c =
+    λ cell. rw (sym (c .before .is-in .ensures) ∙ c .if1 .taken)
+
+returns-2 : tie.Need-returns-2
+unfolding noted
+returns-2 c =
+    λ cell. rw (sym (c .before .before .before .before .is-in .ensures) ∙ c .before .before .before .if1 .left, c .with-phone .ensures)
+
+pub noted-spec : {M : Type 1} → statement M
+noted-spec =
+    tie.close
+    (tie.spec (search needs) returns (search needs) (search needs) (search needs) (search needs) returns-2)

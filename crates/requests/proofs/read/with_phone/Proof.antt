@@ -1,0 +1,20 @@
+-- `read::with_phone` meets its contract: the shift does not pass the digits.
+-- Assumes nothing.
+use mathlib.Core.Path.{ap, _∙_}
+use native.Mathlib.Nat.{one-mul}
+use native.Mathlib.Omega.{arith}
+use lib.Bits.{bitOr}
+use lib.Dec.{lit<}
+use lib.Pow.{shl-exact}
+use Rattle.rules.specs.Phones.{withPhone}
+use borrow.Author.Needs.{needs}
+use Rattle.requests.proofs.read.with_phone.Statement.{statement}
+use Rattle.requests.proofs.read.with_phone.Tie as tie
+
+returns : tie.Need-returns
+unfolding withPhone
+returns c =
+    ap (bitOr (c .before .args .cr)) (shl-exact 1 (c .before .args .phone .0) 64 (lit< tt) (omega (arith, c .before .pre)) ∙ one-mul _)
+
+pub with-phone-spec : {M : Type 1} → statement M
+with-phone-spec = tie.close (tie.spec (search needs) (search needs) returns)

@@ -1,0 +1,111 @@
+// What a request is refused for, in order.
+ghost use mathlib.Core.Path.{_≡_};
+ghost use Prim.Native.Nat.{_≤_};
+ghost use mathlib.Core.Bool.{_&&_};
+ghost use mathlib.Core.List.{[], _∷_};
+ghost use lib.Dec.{leb};
+ghost use lib.ListN.{length};
+ghost use Rattle.notes.specs.Message.{historyMost};
+ghost use Rattle.notes.specs.Reply.{given, first};
+ghost use Rattle.rules.specs.Image.{imageSize, logMost, logCount};
+ghost use Rattle.rules.specs.declared.answer.Refusal.the-variants.{HistoryFull, LogFull};
+ghost use Rattle.rules.specs.Memory.{memory};
+ghost use Rattle.rules.specs.Request.{cellOf, isWrite, outOfRange, requestRefusals};
+ghost use Rattle.sound.specs.Head.{headRefusal};
+use notes::index::PhoneId;
+use notes::index::ServerId;
+use notes::message::Header;
+use notes::record::Record;
+use notes::vector::Vector;
+use rules::answer::Refusal;
+use rules::event::Request;
+use rules::state::State;
+use sound::head;
+use sound::head::Head;
+use sound::image::Image;
+use sound::raw;
+
+fn cell_of(q: Request) -> u16
+    ensures { λ r. ⌜ r ≡ cellOf q ⌝ }
+{
+    match q {
+        Request::Read { cell } => cell,
+        Request::Write {
+            cell,
+            value: _,
+            time: _,
+        } => cell,
+    }
+}
+
+fn is_write(q: Request) -> bool
+    ensures { λ r. ⌜ r ≡ isWrite q ⌝ }
+{
+    match q {
+        Request::Read { cell: _ } => false,
+        Request::Write {
+            cell: _,
+            value: _,
+            time: _,
+        } => true,
+    }
+}
+
+// The event's server isn't the state's own, or phone, cell or vector is out of range.
+fn out_of_range(s: State, at: ServerId, phone: PhoneId, q: Request, asked: Vector) -> bool
+    ensures { λ r. ⌜ r ≡ outOfRange (memory s [] []) at phone q asked ⌝ }
+{
+    let own = s.own;
+    if at.0 != own.0 {
+        return true;
+    }
+    if PhoneId::COUNT <= phone.0 {
+        return true;
+    }
+    if Record::CELLS <= cell_of(q) {
+        return true;
+    }
+    !asked.zero_from(s.n)
+}
+
+// A write finds the history or the log full.
+fn full(s: State, q: Request, image: &[u8]) -> Head
+    requires { ⌜ imageSize ≤ length (now image) ⌝ }
+    ensures { λ r. ⌜ headRefusal r ≡ first (given (isWrite q && leb historyMost (s .held)) HistoryFull ∷ given (isWrite q && leb logMost (logCount (now (image .entry)))) LogFull ∷ []) ⌝ }
+{
+    if !is_write(q) {
+        return Head::Passed;
+    }
+    if Header::WRITES_MOST <= (s.held as usize) {
+        return Head::Refused(Refusal::HistoryFull);
+    }
+    let counts = raw::counts(image);
+    if Image::LOG_MOST <= counts.log {
+        return Head::Refused(Refusal::LogFull);
+    }
+    Head::Passed
+}
+
+pub(crate) fn request_head(
+    s: State,
+    at: ServerId,
+    phone: PhoneId,
+    q: Request,
+    asked: Vector,
+    history: &[u8],
+    image: &[u8],
+) -> Head
+    ensures { λ r. ⌜ headRefusal r ≡ first (requestRefusals (memory s (now (history .entry)) (now (image .entry))) at phone q asked) ⌝ }
+{
+    if let Head::Refused(k) = head::up_head(s, history, image) {
+        return Head::Refused(k);
+    }
+    if out_of_range(s, at, phone, q, asked) {
+        return Head::Refused(Refusal::OutOfRange);
+    }
+    let vector = s.vector;
+    if vector.is_behind(asked) {
+        return Head::Refused(Refusal::NotYet);
+    }
+    full(s, q, image)
+}

@@ -1,0 +1,151 @@
+// A read: served, or cut after some of the stores of the checkpoint that it takes where one is due.
+ghost use mathlib.Core.Path.{_≡_};
+ghost use mathlib.Core.Bool.{true, cond};
+ghost use mathlib.Core.List.{List, []};
+ghost use Prim.Native.Nat.{ℕ, _*_, _≤_, _<_};
+ghost use lib.ListN.{length, take};
+ghost use Rattle.notes.specs.Index.{phones};
+ghost use Rattle.notes.specs.Record.{recordSize};
+ghost use Rattle.notes.specs.Message.{historyMost};
+ghost use Rattle.rules.specs.declared.event.Request.the-variants.{Read};
+ghost use Rattle.rules.specs.Phones.{inSet, withPhone};
+ghost use Rattle.rules.specs.Image.{historySize, imageSize, checkpointCount};
+ghost use Rattle.rules.specs.Memory.{memory};
+ghost use Rattle.rules.specs.Stores.{stored};
+ghost use Rattle.rules.specs.Answer.{effectOf};
+ghost use Rattle.rules.specs.Sound.{sound};
+ghost use Rattle.rules.specs.Request.{noted as notedOf, cleared as clearedOf, due as dueOf, plan, ready as readyOf, served, cutAfter};
+use crate::stores;
+use crate::winner;
+use crate::winner::Won;
+use notes::index::PhoneId;
+use notes::record::Record;
+use rules::answer::Answer;
+use rules::answer::Outcome;
+use rules::state::ReadTable;
+use rules::state::State;
+use sound::raw;
+use sound::state;
+
+fn is_in(cr: u64, phone: PhoneId) -> bool
+    requires { ⌜ phone .0 < phones ⌝ }
+    ensures { λ r. ⌜ r ≡ inSet cr phone ⌝ }
+{
+    (cr >> phone.0) % 2 == 1
+}
+
+fn with_phone(cr: u64, phone: PhoneId) -> u64
+    requires { ⌜ phone .0 < phones ⌝ }
+    ensures { λ r. ⌜ r ≡ withPhone cr phone ⌝ }
+{
+    cr | (1u64 << phone.0)
+}
+
+// A second read with RW above zero takes a checkpoint, whatever its cell is.
+fn due(s: State, phone: PhoneId) -> bool
+    requires { ⌜ phone .0 < phones ⌝ }
+    ensures { λ r. ⌜ ((cell : ℕ) → r ≡ dueOf (memory s [] []) phone (Read cell)) ⌝ }
+{
+    let rw = s.rw;
+    is_in(s.cr, phone) & (0 < rw.counts[phone.0 as usize])
+}
+
+fn noted(s: State, phone: PhoneId) -> State
+    requires { ⌜ phone .0 < phones ⌝ }
+    ensures { λ r. ⌜ ((cell : ℕ) → r ≡ notedOf s phone (Read cell)) ⌝ }
+{
+    if is_in(s.cr, phone) {
+        return s;
+    }
+    let mut rw = s.rw;
+    rw.counts[phone.0 as usize] = s.nwrites;
+    let mut t = s;
+    t.cr = with_phone(s.cr, phone);
+    t.rw = rw;
+    t
+}
+
+fn cleared(s: State) -> State
+    ensures { λ r. ⌜ r ≡ clearedOf s ⌝ }
+{
+    let none = ReadTable {
+        counts: [0; PhoneId::COUNT as usize],
+    };
+    let mut t = s;
+    t.cr = 0;
+    t.rw = none;
+    t.nwrites = 0;
+    t
+}
+
+fn ready(s: State, phone: PhoneId) -> State
+    requires { ⌜ phone .0 < phones ⌝ }
+    ensures { λ r. ⌜ ((cell : ℕ) → r ≡ readyOf (memory s [] []) phone (Read cell)) ⌝ }
+{
+    let t = noted(s, phone);
+    if due(s, phone) { cleared(t) } else { t }
+}
+
+fn answer(won: Won) -> Answer
+    ensures { λ r. ⌜ r ≡ cond (won .some) (Answer.Value (won .value)) Answer.NoNote ⌝ }
+{
+    if won.some {
+        Answer::Value(won.value)
+    } else {
+        Answer::NoNote
+    }
+}
+
+// The first k of a read's stores, or all where k is at least their number.
+fn store_due(s: State, phone: PhoneId, k: usize, history: &[u8], image: &mut [u8])
+    requires { ⌜ (recordSize * s .held ≤ length (now history)) × (imageSize ≤ length (now image)) × (checkpointCount (now image) ≤ s .held) × (s .held ≤ historyMost) × (phone .0 < phones) ⌝ }
+    ensures { λ _. ⌜ ((cell : ℕ) → now (image .exit) ≡ stored (now (image .entry)) (take k (plan (memory s (now (history .entry)) (now (image .entry))) phone (Read cell)))) ⌝ }
+{
+    if !due(s, phone) {
+        return;
+    }
+    let counts = raw::counts(image);
+    stores::store_checkpoint(image, history, s.held as usize, counts.checkpoint, k);
+}
+
+pub(crate) fn read(s: State, phone: PhoneId, cell: u16, history: &[u8], image: &mut [u8]) -> Outcome
+    requires { ⌜ (historySize ≤ length (now history)) × (imageSize ≤ length (now image)) × (sound (memory s (now history) (now image)) ≡ true) × (s .up ≡ true) × (phone .0 < phones) ⌝ }
+    ensures { λ r. ⌜ effectOf r (now (history .entry)) (now (image .exit)) ≡ served (memory s (now (history .entry)) (now (image .entry))) phone (Read cell) ⌝ }
+{
+    let held = s.held as usize;
+    let vector = s.vector;
+    store_due(s, phone, Record::LEN * held + 2, history, image);
+    let won = winner::winner(history, held, cell);
+    Outcome {
+        answer: answer(won),
+        vector,
+        next: ready(s, phone),
+    }
+}
+
+pub(crate) fn read_cut(
+    s: State,
+    phone: PhoneId,
+    cell: u16,
+    k: usize,
+    history: &[u8],
+    image: &mut [u8],
+) -> Outcome
+    requires { ⌜ (historySize ≤ length (now history)) × (imageSize ≤ length (now image)) × (sound (memory s (now history) (now image)) ≡ true) × (s .up ≡ true) × (phone .0 < phones) ⌝ }
+    ensures { λ r. ⌜ effectOf r (now (history .entry)) (now (image .exit)) ≡ cutAfter (memory s (now (history .entry)) (now (image .entry))) phone (Read cell) k ⌝ }
+{
+    store_due(s, phone, k, history, image);
+    state::finished(state::down(s))
+}
+
+// How many stores a read makes: those of a checkpoint where one is due. The history's bytes do not matter.
+pub(crate) fn read_stores(s: State, phone: PhoneId, cell: u16, image: &[u8]) -> usize
+    requires { ⌜ (imageSize ≤ length (now image)) × (checkpointCount (now image) ≤ s .held) × (phone .0 < phones) ⌝ }
+    ensures { λ r. ⌜ ((h : List ℕ) → recordSize * s .held ≤ length h → r ≡ length (plan (memory s h (now (image .entry))) phone (Read cell))) ⌝ }
+{
+    if !due(s, phone) {
+        return 0;
+    }
+    let counts = raw::counts(image);
+    Record::LEN * ((s.held as usize) - counts.checkpoint) + 2
+}

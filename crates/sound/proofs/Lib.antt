@@ -1,0 +1,15 @@
+pub mod Same
+pub mod Up
+pub mod Down
+pub mod Walks
+pub mod Runs
+pub mod Tables
+pub mod Header
+pub mod Tested
+pub mod Zeros
+pub mod Short
+pub mod Heads
+pub mod Starting
+pub mod LookUp
+pub mod OwnMessage
+pub mod Unique

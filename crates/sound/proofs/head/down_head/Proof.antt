@@ -1,0 +1,30 @@
+-- `head::down_head` meets its contract: what judging refuses, then 2.
+-- Assumes nothing.
+use mathlib.Core.Path.{sym, ap, _∙_}
+use Rattle.rules.specs.Memory.{memory}
+use Rattle.sound.specs.Head.{headRefusal}
+use Rattle.sound.proofs.Heads.{head-refused, head-goes-on}
+use borrow.Author.Needs.{needs}
+use Rattle.sound.proofs.head.down_head.Statement.{statement}
+use Rattle.sound.proofs.head.down_head.Tie as tie
+
+returns : tie.Need-returns
+returns c =
+    let m = memory (c .before .before .before .before .before .before .args .s) (c .before .before .before .before .before .before .args .history .now) (c .before .before .before .before .before .before .args .image .now) in
+    sym (head-refused m _ (c .before .before .before .before .before .before .args .s .up) (sym (c .before .before .before .sound-head .ensures) ∙ ap headRefusal (c .before .k .given .1)))
+
+returns-2 : tie.Need-returns-2
+returns-2 c =
+    let m = memory (c .before .before .before .before .before .before .args .s) (c .before .before .before .before .before .before .args .history .now) (c .before .before .before .before .before .before .args .image .now) in
+    let e = head-goes-on m (c .before .before .before .before .before .before .args .s .up) (sym (c .before .before .before .sound-head .ensures) ∙ ap headRefusal (c .before .enum-told .given .1)) in
+    sym (e ∙ rw (c .if1 .taken))
+
+returns-3 : tie.Need-returns-3
+returns-3 c =
+    let m = memory (c .before .before .before .before .before .before .args .s) (c .before .before .before .before .before .before .args .history .now) (c .before .before .before .before .before .before .args .image .now) in
+    let e = head-goes-on m (c .before .before .before .before .before .before .args .s .up) (sym (c .before .before .before .sound-head .ensures) ∙ ap headRefusal (c .before .enum-told .given .1)) in
+    sym (e ∙ rw (c .if1 .left))
+
+pub down-head-spec : {M : Type 1} → statement M
+down-head-spec =
+    tie.close (tie.spec (search needs) (search needs) returns (search needs) returns-2 returns-3)

@@ -1,0 +1,4 @@
+pub mod Head
+pub mod LookUp
+pub mod Tests
+pub mod Walk
