@@ -4,10 +4,8 @@ use Prim.Native.Nat.{ℕ, suc, _+_, _-_, _*_, _<_, _≤_}
 use mathlib.Core.Bool.{Bool, true, false, cond}
 use mathlib.Core.List.{List, [], _∷_, _++_, flatMap, append-nil}
 use mathlib.Core.Path.{_≡_, refl}
-use native.Mathlib.Nat.{zero-add}
 use native.Mathlib.Numerals.{add-six}
 use native.Mathlib.Omega.{arith}
-use borrow.Author.Tests.{lt-ltb, le-ltb}
 use lib.Dec.{ltb}
 use lib.ListN.{length, getD, take, drop, length-take, length-drop, length-append, drop-of-length-le, take-append-drop, set}
 use lib.Seq.{take-all, take-at, take-take, length-take-le, getD-append-add}
@@ -16,14 +14,14 @@ use Rattle.notes.specs.Index.{servers}
 use Rattle.notes.specs.Message.{messageN, messageSender, brought, messageOk, filled}
 use Rattle.notes.specs.declared.record.Record.{Record}
 use Rattle.notes.proofs.Answers.{filled-within}
-use Rattle.notes.proofs.Lists.{copied-more, sets-front}
+use Rattle.notes.proofs.Lists.{copied-more}
 use Rattle.notes.proofs.Messages.{right-few, right-n}
 use Rattle.text.specs.Text.{text, decimal, spaced, Stored}
 use Rattle.text.specs.Listing.{line, numbersOf, recordLine, headLine, listing, headRoom, lineRoom, listingRoom, list}
 use Rattle.notes.specs.declared.message.Refusal.the-variants.{TooShort}
 use Rattle.notes.specs.declared.message.Written.the-variants.{Bytes, Refused}
 use Rattle.text.proofs.Decimals.{length-decimal, length-spaced}
-use Rattle.text.proofs.Texts.{each-room}
+use Rattle.text.proofs.Texts.{each-room, fill-short, fill-done}
 
 -- a line as it is stored: the first number, and the others behind it
 pub line-of :
@@ -117,7 +115,7 @@ listed-wrong m e = rw e
 
 pub list-short : (m out : List ℕ) → length out < listingRoom → filled (Refused TooShort) out ≡ list m out
 unfolding list
-list-short m out h = rw (lt-ltb (length out) listingRoom h)
+list-short m out h = fill-short listingRoom (listing m) out h
 
 pub list-done :
     (m out : List ℕ) (end : ℕ) (after : List ℕ)
@@ -125,15 +123,7 @@ pub list-done :
     → Stored out 0 (listing m) end after
     → filled (Bytes end) after ≡ list m out
 unfolding list
-list-done m out end after h s =
-    let room = listing-room m in
-    rw (
-      le-ltb (length out) listingRoom h,
-      s .bytes,
-      sets-front (listing m) out (length (listing m)) refl (omega arith),
-      s .ends,
-      zero-add,
-    )
+list-done m out end after h s = fill-done listingRoom (listing m) out end after (listing-room m) h s
 
 -- the text lies within the output
 pub listed-within : (m out : List ℕ) (k : ℕ) (after : List ℕ) → filled (Bytes k) after ≡ list m out → k ≤ length after

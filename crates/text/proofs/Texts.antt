@@ -3,10 +3,17 @@
 use Prim.Native.Nat.{ℕ, _+_, _*_, _<_, _≤_}
 use mathlib.Core.List.{List, [], _∷_, _++_, flatMap, append-nil}
 use mathlib.Core.Path.{_≡_, refl, ap, _∙_}
+use native.Mathlib.Nat.{zero-add}
 use native.Mathlib.Omega.{arith}
+use borrow.Author.Tests.{lt-ltb, le-ltb}
+use lib.Dec.{ltb}
 use lib.ListN.{length, getD, take, set, length-append}
 use lib.Seq.{take-all, length-sets}
-use Rattle.notes.proofs.Lists.{take-more, flatMap-append, sets-append}
+use Rattle.notes.specs.Reply.{given}
+use Rattle.notes.specs.Message.{filled, fillUnless}
+use Rattle.notes.specs.declared.message.Refusal.the-variants.{TooShort}
+use Rattle.notes.specs.declared.message.Written.the-variants.{Bytes, Refused}
+use Rattle.notes.proofs.Lists.{take-more, flatMap-append, sets-append, sets-front}
 use Rattle.text.specs.Text.{Stored}
 
 module _ {out : List ℕ} {at : ℕ} {a : List ℕ} {mid : ℕ} {between : List ℕ} where
@@ -50,3 +57,23 @@ pub each-room : {A : Type 0} (f : A → List ℕ) (k : ℕ) → ((a : A) → len
 unfolding flatMap
 each-room f k h [] = omega arith
 each-room f k h (a ∷ l) = rw length-append (omega (arith, h a, each-room f k h l))
+
+-- ---- a text from the front of an output that has room for any
+module _ (room : ℕ) (t out : List ℕ) where
+  pub fill-short : length out < room → filled (Refused TooShort) out ≡ fillUnless (given (ltb (length out) room) TooShort) t out
+  fill-short h = rw (lt-ltb (length out) room h)
+
+  pub fill-done :
+      (end : ℕ) (after : List ℕ)
+      → length t ≤ room
+      → room ≤ length out
+      → Stored out 0 t end after
+      → filled (Bytes end) after ≡ fillUnless (given (ltb (length out) room) TooShort) t out
+  fill-done end after fits h s =
+      rw (
+        le-ltb (length out) room h,
+        s .bytes,
+        sets-front t out (length t) refl (omega arith),
+        s .ends,
+        zero-add,
+      )

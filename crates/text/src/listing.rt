@@ -6,10 +6,11 @@ ghost use mathlib.Core.Bool.{true};
 ghost use lib.ListN.{length, take};
 ghost use Rattle.notes.specs.Index.{servers};
 ghost use Rattle.notes.specs.Message.{brought, messageOk, headerSaid, filled};
-ghost use Rattle.text.specs.Text.{digitsMost, decimal, spaced, Stored};
+ghost use Rattle.text.specs.Text.{digitsMost, decimal, Stored};
 ghost use Rattle.text.specs.Listing.{line, numbersOf, beforeStamp, recordLine, headLine, listing, headRoom, lineRoom, listingRoom, list as listOf};
+use crate::print::DIGITS;
+use crate::print::put_all_spaced;
 use crate::print::put_decimal;
-use crate::print::put_spaced;
 use crate::print::put_text;
 use notes::message;
 use notes::message::Checked;
@@ -25,9 +26,7 @@ const BEFORE_STAMP: usize = 6;
 
 const NUMBERS: usize = BEFORE_STAMP + Vector::LEN;
 
-// The most digits that a number has, and room for the head line and for a record's line.
-const DIGITS: usize = 10;
-
+// Room for the head line and for a record's line.
 const HEAD_ROOM: usize = 25 + 3 * DIGITS;
 
 const LINE_ROOM: usize = (DIGITS + 1) * NUMBERS;
@@ -53,20 +52,6 @@ fn put_head(out: &mut [u8], n: u32, sender: u32, count: u32) -> usize
     let from = put_named(out, servers, b" sender ", sender);
     let writes = put_named(out, from, b" writes ", count);
     put_text(out, writes, b"\n")
-}
-
-// Numbers, with a space before each.
-fn put_all_spaced(out: &mut [u8], at: usize, xs: &[u32]) -> usize
-    requires { ⌜ at + (digitsMost + 1) * length (now xs) ≤ length (now out) ⌝ }
-    ensures { λ r. ⌜ Stored (now (out .entry)) at (flatMap spaced (now (xs .entry))) r (now (out .exit)) ⌝ }
-{
-    let mut end = at;
-    let mut i: usize = 0;
-    while i < xs.len() {
-        end = put_spaced(out, end, xs[i]);
-        i += 1;
-    }
-    end
 }
 
 // Numbers in a line.

@@ -1,7 +1,11 @@
 // Text stored at a place of a lent output, each function handing back the place behind it.
-ghost use Prim.Native.Nat.{_+_, _≤_};
+ghost use Prim.Native.Nat.{_+_, _*_, _≤_};
+ghost use mathlib.Core.List.{flatMap};
 ghost use lib.ListN.{length};
-ghost use Rattle.text.specs.Text.{decimal, spaced, Stored};
+ghost use Rattle.text.specs.Text.{digitsMost, decimal, spaced, Stored};
+
+// The most digits that a number has.
+pub(crate) const DIGITS: usize = 10;
 
 // The bytes of t.
 pub(crate) fn put_text(out: &mut [u8], at: usize, t: &[u8]) -> usize
@@ -33,4 +37,18 @@ pub(crate) fn put_spaced(out: &mut [u8], at: usize, n: u32) -> usize
 {
     out[at] = b' ';
     put_decimal(out, at + 1, n)
+}
+
+// Numbers, with a space before each.
+pub(crate) fn put_all_spaced(out: &mut [u8], at: usize, xs: &[u32]) -> usize
+    requires { ⌜ at + (digitsMost + 1) * length (now xs) ≤ length (now out) ⌝ }
+    ensures { λ r. ⌜ Stored (now (out .entry)) at (flatMap spaced (now (xs .entry))) r (now (out .exit)) ⌝ }
+{
+    let mut end = at;
+    let mut i: usize = 0;
+    while i < xs.len() {
+        end = put_spaced(out, end, xs[i]);
+        i += 1;
+    }
+    end
 }

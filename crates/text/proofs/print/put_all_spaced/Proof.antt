@@ -1,4 +1,4 @@
--- `listing::put_all_spaced` meets its contract. The invariant: the numbers passed stand in the output.
+-- `print::put_all_spaced` meets its contract. The invariant: the numbers passed stand in the output.
 -- Assumes nothing.
 use Prim.Native.Nat.{_≤_, _-_, _+_, _*_}
 use mathlib.Core.List.{flatMap}
@@ -8,8 +8,8 @@ use Rattle.text.specs.Text.{spaced, Stored}
 use Rattle.text.proofs.Decimals.{length-spaced}
 use Rattle.text.proofs.Texts.{then, same-text, same-room, no-text, each-more, each-all}
 use borrow.Author.Needs.{needs}
-use Rattle.text.proofs.listing.put_all_spaced.Statement.{statement}
-use Rattle.text.proofs.listing.put_all_spaced.Tie as tie
+use Rattle.text.proofs.print.put_all_spaced.Statement.{statement}
+use Rattle.text.proofs.print.put_all_spaced.Tie as tie
 
 abbrev Inv-loop : tie.InvT-loop
 Inv-loop out₀ at xs end₀ i₀ out end i =
