@@ -19,7 +19,7 @@ use Rattle.rules.specs.Stores.{Store, byte, count, store, stored, byteSt
 
 -- ---- numbers below a bound stay below it
 module _ {n : ℕ} where
-  below-cons : (x : ℕ) (l : List ℕ) → x < n → AllBelow n l → AllBelow n (x ∷ l)
+  pub below-cons : (x : ℕ) (l : List ℕ) → x < n → AllBelow n l → AllBelow n (x ∷ l)
   below-cons x l h k zero = h
   below-cons x l h k (suc i) = k i
 
@@ -48,7 +48,7 @@ module _ {n : ℕ} where
 pub below-zeros : (k : ℕ) → AllBelow 256 (replicate k 0)
 below-zeros k i = rw (zeros-at k i) (omega arith)
 
-below-toBytes : (w x : ℕ) → AllBelow 256 (toBytes w x)
+pub below-toBytes : (w x : ℕ) → AllBelow 256 (toBytes w x)
 unfolding toBytes
 below-toBytes zero x i = omega arith
 below-toBytes (suc w) x zero = omega arith

@@ -366,14 +366,14 @@ module _ (s : State) (h c l : List Record) (f : Facts s h c l) (own : s .own .0 
   missing-own = every-drop _ kept (writesOf (s .own) h) (keep-passes (λ r. eqb (r .origin .0) (s .own .0)) h)
 
   -- together they are the own writes again, and of other origins the checkpoint's
-  own-again : writesOf (s .own) (c ++ missing) ≡ mine
+  pub own-again : writesOf (s .own) (c ++ missing) ≡ mine
   own-again =
       writesOf-append (s .own) c (drop kept mine)
       ∙ ap (λ (a : List Record). a ++ writesOf (s .own) (drop kept mine)) kept-mine
       ∙ ap (λ (b : List Record). take kept mine ++ b) (writesOf-all (s .own) (drop kept mine) missing-own)
       ∙ take-append-drop kept mine
 
-  others-none : (o : ServerId) → (s .own .0 ≡ o .0 → ⊥) → writesOf o (c ++ missing) ≡ writesOf o c
+  pub others-none : (o : ServerId) → (s .own .0 ≡ o .0 → ⊥) → writesOf o (c ++ missing) ≡ writesOf o c
   others-none o q =
       writesOf-append o c missing
       ∙ ap (λ (b : List Record). writesOf o c ++ b) (writesOf-none o (s .own) missing q missing-own)

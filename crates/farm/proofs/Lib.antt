@@ -1,0 +1,13 @@
+pub mod Prefix
+pub mod Held
+pub mod Steps
+pub mod Taken
+pub mod Told
+pub mod Known
+pub mod Inv
+pub mod Moves
+pub mod Serving
+pub mod Runs
+pub mod Demands
+pub mod Welcome
+pub mod Worked

@@ -1,0 +1,314 @@
+-- A request served, or cut on the way, keeps what holds.
+-- Assumes nothing.
+use Prim.Native.Nat.{ℕ, _<_}
+use mathlib.Core.Bool.{Bool, true, false, cond, _&&_}
+use mathlib.Core.List.{List, [], _∷_, _++_, List·Memᴰ, List·Memᴰ·head, List·Memᴰ·not-nil, Memᴰ·append-right}
+use mathlib.Core.Logic.{_⊎_, inl, inr}
+use mathlib.Core.Option.{none}
+use mathlib.Core.Path.{_≡_, refl, ap, sym, subst, _∙_}
+use native.Mathlib.Omega.{arith}
+use borrow.Author.Tests.{eq-eqb, ne-eqb, ltb-true}
+use lib.Dec.{ltb}
+use lib.ListN.{length}
+use Rattle.notes.specs.Index.{servers}
+use Rattle.notes.specs.Reply.{first}
+use Rattle.notes.specs.Vector.{at}
+use Rattle.notes.specs.declared.index.PhoneId.{PhoneId}
+use Rattle.notes.specs.declared.index.ServerId.{ServerId}
+use Rattle.notes.specs.declared.record.Record.{Record}
+use Rattle.notes.specs.declared.vector.Vector.{Vector}
+use Rattle.notes.proofs.Lists.{both}
+use Rattle.notes.proofs.Pieces.{Each}
+use Rattle.rules.specs.declared.event.Request.{Request}
+use Rattle.rules.specs.declared.event.Request.the-variants.{Read, Write}
+use Rattle.rules.specs.declared.event.What.the-variants as what
+use Rattle.rules.specs.declared.state.State.{State}
+use Rattle.rules.specs.Writes.{server, keep, writesOf, tally}
+use Rattle.rules.specs.Memory.{Memory, writes}
+use Rattle.rules.specs.Answer.{Effect, unless}
+use Rattle.rules.specs.Request.{newRecord, noted, cleared, due, ready, performed, written, served, cutAfter, requestRefusals, cutRefusal, request, requestCut}
+use Rattle.rules.specs.Step.{step}
+use Rattle.rules.proofs.Passed as passed
+use Rattle.rules.proofs.Passed.{asked, asked-cut}
+use Rattle.rules.proofs.Reading.{noted-is}
+use Rattle.rules.proofs.Writes.{length-tally, at-tally, writesOf-here, writesOf-other}
+use Rattle.farm.specs.Farm.{Asked, Replied, Begun, Farm, changed}
+use Rattle.farm.specs.Act.{askable, stepAt, beginning, recordOf, serving, servingCut}
+use Rattle.farm.proofs.Prefix.{Pre, mem-each, each-mem, changed-same, changed-other}
+use Rattle.farm.proofs.Held.{Sane, keeps, Kept, Held}
+use Rattle.farm.proofs.Known.{Grows, Fair, Knows, Asks, flight-grows, performed-grows, asks-began}
+use Rattle.farm.proofs.Steps.{keeps-up, refused-same, kept-same, kept-more, kept-read, kept-write, kept-cut-read, kept-cut-write, kept-vector, servers-few}
+use Rattle.farm.proofs.Inv.{numbered, Seats, Inv, Onward, mine, grows, seats-next, deeds-next}
+use Rattle.farm.proofs.Moves.{done-none, changed-id, step-or-not, below-none, at-server, before-sane, after-sane, only-own}
+
+-- ---- the record that a request gives is the server's own
+own-record : (m : Memory) (j : ServerId) → m .state .own ≡ j → (i : PhoneId) (q : Request) → writesOf j (recordOf m i q) ≡ recordOf m i q
+unfolding recordOf writesOf keep newRecord
+own-record m j e i (Read cell) = refl
+own-record m j e i (Write cell value time) = writesOf-here j (newRecord m i cell value time) (ap (λ (o : ServerId). o .0) e)
+
+other-record :
+    (m : Memory) (j : ServerId)
+    → m .state .own ≡ j
+    → (i : PhoneId) (q : Request) (o : ℕ)
+    → (o ≡ j .0 → ⊥)
+    → writesOf (server o) (recordOf m i q) ≡ []
+unfolding recordOf writesOf keep newRecord
+other-record m j e i (Read cell) o n = refl
+other-record m j e i (Write cell value time) o n =
+    writesOf-other (server o) (newRecord m i cell value time) (λ p. n (sym p ∙ ap (λ (o : ServerId). o .0) e))
+
+-- ---- a served request's vector is V
+served-vector : (m : Memory) (i : PhoneId) (q : Request) → served m i q .vector ≡ served m i q .after .state .vector
+unfolding served
+served-vector m i q = refl
+
+-- ---- what is kept
+small : (value time : ℕ) → (ltb value 4294967296 && ltb time 4294967296) ≡ true → (value < 4294967296) × (time < 4294967296)
+small value time e =
+    let x = both (ltb value 4294967296) (ltb time 4294967296) e in
+    (ltb-true value 4294967296 (x .0), ltb-true time 4294967296 (x .1))
+
+module _ (n : ℕ) (j : ServerId) (m : Memory) (s : Sane n j m) (i : PhoneId) (v : Vector) where
+  kept-served : (q : Request) → passed.Asked m j i q v → askable q ≡ true → Kept j (keeps m) (recordOf m i q) (keeps (served m i q .after))
+  unfolding recordOf
+  kept-served (Read cell) a e = kept-same j (keeps m) (keeps (served m i (Read cell) .after)) (kept-read n j m s i cell v a)
+  kept-served (Write cell value time) a e =
+      let b = small value time e in
+      kept-more j (keeps m) (newRecord m i cell value time ∷ []) (keeps (served m i (Write cell value time) .after))
+      (kept-write n j m s i cell value time v a (b .0) (b .1))
+
+  kept-cut-after :
+      (q : Request) (k : ℕ)
+      → passed.Asked m j i q v
+      → askable q ≡ true
+      → Kept j (keeps m) [] (keeps (cutAfter m i q k .after)) ⊎ Kept j (keeps m) (recordOf m i q) (keeps (cutAfter m i q k .after))
+  unfolding recordOf
+  kept-cut-after (Read cell) k a e = inl (kept-cut-read n j m s i cell k v a)
+  kept-cut-after (Write cell value time) k a e =
+      let b = small value time e in
+      kept-cut-write n j m s i cell value time k v a (b .0) (b .1)
+
+  -- a server that served is up
+  served-up : (q : Request) → passed.Asked m j i q v → served m i q .after .state .up ≡ true
+  unfolding served performed ready noted due written cleared
+  served-up (Read cell) a = go (due m i (Read cell))
+    where
+      go : (b : Bool) → cond b (cleared (noted (m .state) i (Read cell))) (noted (m .state) i (Read cell)) .up ≡ true
+      go true = ap (λ (t : State). t .up) (noted-is (m .state) i (Read cell)) ∙ a .up
+      go false = ap (λ (t : State). t .up) (noted-is (m .state) i (Read cell)) ∙ a .up
+  served-up (Write cell value time) a = a .up
+
+module _ (n : ℕ) (f : Farm) (i : Inv n f) (j : ServerId) (q : Asked) (y : List·Memᴰ q (f .sent .requests)) where
+  abbrev m : Memory
+  m = f .servers (j .0)
+
+  abbrev c : ℕ → List Record
+  c = numbered (f .servers)
+
+  abbrev b : Begun
+  b = beginning f j q
+
+  abbrev r : List Record
+  r = recordOf m (q .phone) (q .request)
+
+  fair : Fair n c q
+  fair = each-mem (Fair n c) (f .sent .requests) (i .flight .requests) y
+
+  -- ---- where the server goes on with the request's record, or with nothing
+  module _ (low : j .0 < n) (sane : Sane n j m) (after : Memory) (sound : Sane n j after) (added : List Record) (k : Kept j (keeps m) added (keeps after)) (which : (added ≡ []) ⊎ (added ≡ r)) where
+    abbrev d : ℕ → List Record
+    d = numbered (changed (f .servers) (j .0) after)
+
+    pub foreign : (o : ℕ) → o < n → (o ≡ j .0 → ⊥) → Pre (writesOf (server o) (keeps m ++ added)) (c o)
+    unfolding writesOf keep
+    foreign = only-own n f i j low after sound added (λ o p. go which o p)
+      where
+        go : (added ≡ []) ⊎ (added ≡ r) → (o : ℕ) → (o ≡ j .0 → ⊥) → writesOf (server o) added ≡ []
+        go (inl e) o p = ap (writesOf (server o)) e
+        go (inr e) o p = ap (writesOf (server o)) e ∙ other-record m j (sane .own) (q .phone) (q .request) o p
+
+    pub new-begun : (w : Record) → List·Memᴰ w (writesOf j added) → Asks (f .sent .requests) (b ∷ f .told .begun (j .0)) w
+    unfolding writesOf keep
+    new-begun w x = go which
+      where
+        go : (added ≡ []) ⊎ (added ≡ r) → Asks (f .sent .requests) (b ∷ f .told .begun (j .0)) w
+        go (inl e) = absurd (List·Memᴰ·not-nil (subst (λ a. List·Memᴰ w (writesOf j a)) e x))
+        go (inr e) =
+            record {
+              began = b;
+              listed = List·Memᴰ·head refl;
+              asked = y;
+              gives = subst (List·Memᴰ w) (ap (writesOf j) e ∙ own-record m j (sane .own) (q .phone) (q .request)) x;
+            }
+
+  -- ---- cut on the way
+  module _ (k : ℕ) where
+    abbrev e : Effect
+    e = stepAt f j (what.RequestCut (q .phone) (q .request) k) (q .vector) []
+
+    cut-refused : (e .reply .number ≡ 0 → ⊥) → servingCut f j q k ≡ f
+    unfolding servingCut stepAt
+    cut-refused p =
+        let same = changed-id (f .servers) (j .0) (e .after) (refused-same m (record { server = j; what = what.RequestCut (q .phone) (q .request) k }) (q .vector) [] p) in
+        let begun = changed-id (f .told .begun) (j .0) (f .told .begun (j .0)) refl in
+        rw (ne-eqb (e .reply .number) 0 p)
+        (λ t. record { servers = same t; phones = f .phones; sent = f .sent; told = record { performed = f .told .performed; begun = begun t } })
+
+    cut-done : e .reply .number ≡ 0 → Onward n f (servingCut f j q k)
+    unfolding servingCut stepAt step requestCut
+    cut-done done =
+        let low = at-server n f i j (what.RequestCut (q .phone) (q .request) k) (q .vector) [] done (below-none n f i) in
+        let sane = before-sane n f i j (what.RequestCut (q .phone) (q .request) k) (q .vector) [] done (below-none n f i) in
+        let sound = after-sane n f i j (what.RequestCut (q .phone) (q .request) k) (q .vector) [] done (below-none n f i) in
+        let rows = requestRefusals m j (q .phone) (q .request) (q .vector) ++ cutRefusal m (q .phone) (q .request) k ∷ [] in
+        let p = done-none (first rows) m (cutAfter m (q .phone) (q .request) k) done in
+        let x = asked-cut m j (q .phone) (q .request) (q .vector) k p .0 in
+        let same = ap (λ r. unless r m (cutAfter m (q .phone) (q .request) k) .after) p in
+        go low sane sound (subst (λ (z : Memory). Kept j (keeps m) [] (keeps z) ⊎ Kept j (keeps m) r (keeps z)) (sym same) (kept-cut-after n j m sane (q .phone) (q .vector) (q .request) k x (fair .numbers)))
+      where
+        on : (low : j .0 < n) → Sane n j m → Sane n j (e .after) → (added : List Record) → Kept j (keeps m) added (keeps (e .after)) → (added ≡ []) ⊎ (added ≡ r) → Onward n f (servingCut f j q k)
+        on low sane sound added kept which =
+            let away = foreign low sane (e .after) sound added kept which in
+            let g = grows n (f .servers) (i .seats) (j .0) low (e .after) sound added kept away in
+            let same = changed-same (f .told .begun) (j .0) (b ∷ f .told .begun (j .0)) in
+            rw (eq-eqb (e .reply .number) 0 done)
+            (record {
+              grows = g;
+              inv = record {
+                seats = seats-next n (f .servers) (i .seats) (j .0) low (e .after) sound added kept away;
+                flight = flight-grows n c (numbered (changed (f .servers) (j .0) (e .after))) g (f .phones) (f .sent) (i .flight);
+                deeds =
+                    deeds-next n (f .servers) (i .seats) (j .0) low (e .after) sound added kept away (f .sent .requests) (f .told)
+                    (record { performed = f .told .performed; begun = changed (f .told .begun) (j .0) (b ∷ f .told .begun (j .0)) })
+                    (i .deeds)
+                    (λ o p. (refl, changed-other (f .told .begun) (j .0) (b ∷ f .told .begun (j .0)) o p))
+                    (performed-grows n c (numbered (changed (f .servers) (j .0) (e .after))) g (j .0) low (f .told .performed (j .0)) (i .deeds .performed (j .0) low))
+                    (λ w a. rw same (asks-began (f .sent .requests) b (f .told .begun (j .0)) w a))
+                    (λ w a. rw same (new-begun low sane (e .after) sound added kept which w a));
+              };
+            })
+
+        go : (low : j .0 < n) → Sane n j m → Sane n j (e .after) → Kept j (keeps m) [] (keeps (e .after)) ⊎ Kept j (keeps m) r (keeps (e .after)) → Onward n f (servingCut f j q k)
+        go low sane sound (inl kept) = on low sane sound [] kept (inl refl)
+        go low sane sound (inr kept) = on low sane sound r kept (inr refl)
+
+    pub cut-inv : Onward n f (servingCut f j q k)
+    cut-inv = step-or-not n f i e (servingCut f j q k) cut-refused cut-done
+
+  -- ---- served
+  abbrev a : Effect
+  a = stepAt f j (what.Request (q .phone) (q .request)) (q .vector) []
+
+  abbrev reply : Replied
+  reply = record { phone = q .phone; request = q .request; vector = a .vector; history = writes (a .after) }
+
+  serve-refused : (a .reply .number ≡ 0 → ⊥) → serving f j q ≡ f
+  unfolding serving stepAt
+  serve-refused p =
+      let same = changed-id (f .servers) (j .0) (a .after) (refused-same m (record { server = j; what = what.Request (q .phone) (q .request) }) (q .vector) [] p) in
+      let performed = changed-id (f .told .performed) (j .0) (f .told .performed (j .0)) refl in
+      let begun = changed-id (f .told .begun) (j .0) (f .told .begun (j .0)) refl in
+      rw (ne-eqb (a .reply .number) 0 p)
+      (λ t. record { servers = same t; phones = f .phones; sent = f .sent; told = record { performed = performed t; begun = begun t } })
+
+  serve-done : a .reply .number ≡ 0 → Onward n f (serving f j q)
+  unfolding serving stepAt step request
+  serve-done done =
+      rw (eq-eqb (a .reply .number) 0 done)
+      (record {
+        grows = more;
+        inv = record {
+          seats = seats;
+          flight =
+              let g = flight-grows n c d more (f .phones) (f .sent) (i .flight) in
+              record { sessions = g .sessions; requests = g .requests; replies = (known, g .replies); updates = g .updates };
+          deeds =
+              deeds-next n (f .servers) (i .seats) (j .0) low (a .after) sound r kept away (f .sent .requests) (f .told)
+              (record { performed = changed (f .told .performed) (j .0) (b ∷ f .told .performed (j .0)); begun = changed (f .told .begun) (j .0) (b ∷ f .told .begun (j .0)) })
+              (i .deeds)
+              (λ o p. (changed-other (f .told .performed) (j .0) (b ∷ f .told .performed (j .0)) o p, changed-other (f .told .begun) (j .0) (b ∷ f .told .begun (j .0)) o p))
+              (rw (changed-same (f .told .performed) (j .0) (b ∷ f .told .performed (j .0)))
+              (did, performed-grows n c d more (j .0) low (f .told .performed (j .0)) (i .deeds .performed (j .0) low)))
+              (λ w x. rw same (asks-began (f .sent .requests) b (f .told .begun (j .0)) w x))
+              (λ w x. rw same (new-begun low sane (a .after) sound r kept (inr refl) w x));
+        };
+      })
+    where
+      low : j .0 < n
+      low = at-server n f i j (what.Request (q .phone) (q .request)) (q .vector) [] done (below-none n f i)
+
+      sane : Sane n j m
+      sane = before-sane n f i j (what.Request (q .phone) (q .request)) (q .vector) [] done (below-none n f i)
+
+      sound : Sane n j (a .after)
+      sound = after-sane n f i j (what.Request (q .phone) (q .request)) (q .vector) [] done (below-none n f i)
+
+      p : first (requestRefusals m j (q .phone) (q .request) (q .vector)) ≡ none
+      p = done-none (first (requestRefusals m j (q .phone) (q .request) (q .vector))) m (served m (q .phone) (q .request)) done
+
+      x : passed.Asked m j (q .phone) (q .request) (q .vector)
+      x = asked m j (q .phone) (q .request) (q .vector) p
+
+      is : a ≡ served m (q .phone) (q .request)
+      is = ap (λ r. unless r m (served m (q .phone) (q .request))) p
+
+      kept : Kept j (keeps m) r (keeps (a .after))
+      kept = subst (λ (z : Effect). Kept j (keeps m) r (keeps (z .after))) (sym is) (kept-served n j m sane (q .phone) (q .vector) (q .request) x (fair .numbers))
+
+      away : (o : ℕ) → o < n → (o ≡ j .0 → ⊥) → Pre (writesOf (server o) (keeps m ++ r)) (c o)
+      away = foreign low sane (a .after) sound r kept (inr refl)
+
+      d : ℕ → List Record
+      d = numbered (changed (f .servers) (j .0) (a .after))
+
+      more : Grows n c d
+      more = grows n (f .servers) (i .seats) (j .0) low (a .after) sound r kept away
+
+      seats : Seats n (changed (f .servers) (j .0) (a .after))
+      seats = seats-next n (f .servers) (i .seats) (j .0) low (a .after) sound r kept away
+
+      same : changed (f .told .begun) (j .0) (b ∷ f .told .begun (j .0)) (j .0) ≡ b ∷ f .told .begun (j .0)
+      same = changed-same (f .told .begun) (j .0) (b ∷ f .told .begun (j .0))
+
+      did : Each (λ w. List·Memᴰ w (d (j .0))) r
+      did =
+          mem-each (λ w. List·Memᴰ w (d (j .0))) r
+          (λ w z.
+          subst (List·Memᴰ w)
+          (sym (mine n (f .servers) (i .seats) (j .0) low (a .after) sound r kept away ∙ ap (λ l. c (j .0) ++ l) (own-record m j (sane .own) (q .phone) (q .request))))
+          (Memᴰ·append-right (c (j .0)) z))
+
+      up : a .after .state .up ≡ true
+      up = ap (λ (z : Effect). z .after .state .up) is ∙ served-up n j m sane (q .phone) (q .vector) (q .request) x
+
+      held-all : keeps (a .after) ≡ writes (a .after)
+      held-all = keeps-up (a .after) up
+
+      counts : a .vector ≡ tally (writes (a .after))
+      counts =
+          ap (λ (z : Effect). z .vector) is
+          ∙ served-vector m (q .phone) (q .request)
+          ∙ sym (ap (λ (z : Effect). z .after .state .vector) is)
+          ∙ kept-vector n j (a .after) sound up
+          ∙ ap tally held-all
+
+      known : Knows n d (a .vector) (writes (a .after) ∷ [])
+      known =
+          record {
+            eight = ap (λ (v : Vector). length (v .counts)) counts ∙ length-tally (writes (a .after));
+            each = (
+              record {
+                held = subst (Held n d) (ap keeps (changed-same (f .servers) (j .0) (a .after)) ∙ held-all) (seats .held (j .0) low);
+                counted = λ o l.
+                    omega (
+                      arith,
+                      ap (λ (v : Vector). at v (server o)) counts ∙ at-tally (writes (a .after)) (server o) (omega (arith, servers-few n j m sane)),
+                    );
+              },
+              tt,
+            );
+          }
+
+  pub serve-inv : Onward n f (serving f j q)
+  serve-inv = step-or-not n f i a (serving f j q) serve-refused serve-done

@@ -1,0 +1,189 @@
+-- No server of a farm is told 6, but of its own message, and no message in flight is told 7 or 8.
+-- Assumes nothing.
+use Prim.Native.Nat.{ℕ, _+_, _<_}
+use mathlib.Core.Bool.{Bool, true, false, cond, not, _&&_, true≢false}
+use mathlib.Core.List.{List, [], _∷_, _++_, List·Memᴰ}
+use mathlib.Core.Option.{Option, none, some}
+use mathlib.Core.Path.{_≡_, refl, ap, sym, _∙_}
+use native.Mathlib.Omega.{arith}
+use borrow.Author.Tests.{eqb-true, eq-eqb, le-ltb}
+use lib.Dec.{eqb, leb}
+use lib.ListN.{length}
+use Rattle.notes.specs.Index.{servers}
+use Rattle.notes.specs.Reply.{given, first}
+use Rattle.notes.specs.Message.{historyMost, brought, messageN, messageSender}
+use Rattle.notes.specs.Record.{number}
+use Rattle.notes.specs.Vector.{zeros, behind}
+use Rattle.notes.specs.declared.index.PhoneId.{PhoneId}
+use Rattle.notes.specs.declared.index.ServerId.{ServerId}
+use Rattle.notes.specs.declared.vector.Vector.{Vector}
+use Rattle.notes.proofs.Pieces.{Each}
+use Rattle.rules.specs.declared.answer.Refusal.{Refusal}
+use Rattle.rules.specs.declared.answer.Refusal.the-variants.{OutOfRange, NotUp, NotYet, HistoryFull, LogFull, Unsound, TooShort}
+use Rattle.rules.specs.declared.event.Request.{Request}
+use Rattle.rules.specs.declared.event.What.{What}
+use Rattle.rules.specs.declared.event.What.the-variants as what
+use Rattle.rules.specs.Memory.{Memory, withState, downOf}
+use Rattle.rules.specs.Answer.{Effect, refusalNumber, finished, unless}
+use Rattle.rules.specs.Image.{historySize, imageSize, logMost, logCount}
+use Rattle.rules.specs.Recovery.{recover}
+use Rattle.rules.specs.Request.{isWrite, plan, served, cutAfter, outOfRange, requestRefusals, cutRefusal, request, requestCut}
+use Rattle.rules.specs.Refusals.{short, head, isDown, elsewhere}
+use Rattle.rules.specs.Update.{taken, takenFrom, suitable, updateRefusals, update}
+use Rattle.rules.specs.Sound.{sound}
+use Rattle.rules.specs.Step.{plainRefusals, cut, recovery, happens, step}
+use Rattle.rules.proofs.Passed as passed
+use Rattle.farm.specs.Farm.{Farm}
+use Rattle.farm.specs.Act.{stepAt}
+use Rattle.farm.specs.Demand.{Reached, Recovery, Welcome}
+use Rattle.farm.proofs.Prefix.{each-mem}
+use Rattle.farm.proofs.Held.{Sane, keeps}
+use Rattle.farm.proofs.Known.{Genuine}
+use Rattle.farm.proofs.Steps.{reply-number, kept-vector}
+use Rattle.farm.proofs.Taken.{none-refused}
+use Rattle.farm.proofs.Inv.{numbered, lists-run, Inv}
+use Rattle.farm.proofs.Runs.{reached-inv}
+use Rattle.farm.proofs.Demands.{all-sound}
+
+-- ---- an update in flight, at a server
+module _ (n : ℕ) (f : Farm) (x : Reached n f) (j : ServerId) (low : j .0 < n) (msg : List ℕ) (y : List·Memᴰ msg (f .sent .updates)) where
+  abbrev m : Memory
+  m = f .servers (j .0)
+
+  abbrev e : Effect
+  e = stepAt f j what.Update zeros msg
+
+  inv : Inv n f
+  inv = reached-inv n f x
+
+  s : Sane n j m
+  s = inv .seats .sits (j .0) low
+
+  g : Genuine n (numbered (f .servers)) msg
+  g = each-mem (Genuine n (numbered (f .servers))) (f .sent .updates) (inv .flight .updates) y
+
+  not-short : short m ≡ false
+  not-short = rw (le-ltb (length (m .history)) historySize (s .history), le-ltb (length (m .image)) imageSize (s .image))
+
+  here : elsewhere m j ≡ false
+  here = rw (eq-eqb (j .0) (m .state .own .0) (sym (ap (λ (o : ServerId). o .0) (s .own))))
+
+  -- it fits unless it is the server's own
+  fits : suitable m msg ≡ not (eqb (messageSender msg .0) (j .0))
+  fits =
+      rw (
+        g .right .0,
+        eq-eqb (messageN msg) (m .state .n) (g .right .1 ∙ sym (s .servers)),
+        ap (λ (o : ServerId). o .0) (s .own),
+      )
+
+  in-turn : m .state .up ≡ true → takenFrom m msg .refusal ≡ none
+  in-turn up =
+      ap (λ (o : ServerId). taken o (m .state .vector) (brought msg) .refusal) (s .own)
+      ∙ ap (λ (v : Vector). taken j v (brought msg) .refusal) (kept-vector n j m s up)
+      ∙ none-refused n (numbered (f .servers)) (x .few) (lists-run n (f .servers) (inv .seats)) j (keeps m) (brought msg) low refl (inv .seats .held (j .0) low) (g .held)
+
+  -- what it is answered: 2, 6, 4 or nothing
+  abbrev said : Bool → Bool → Bool → ℕ
+  said up own room = cond up (cond own 6 (cond room 0 4)) 2
+
+  answered : (b o r : Bool) → m .state .up ≡ b → eqb (messageSender msg .0) (j .0) ≡ o → leb (m .state .held + length (takenFrom m msg .new)) historyMost ≡ r → e .reply .number ≡ said b o r
+  unfolding stepAt step update updateRefusals
+  answered true true r p q k = rw (not-short, s .sound, p, here, fits, q)
+  answered true false true p q k = rw (not-short, s .sound, p, here, fits, q, in-turn p, k)
+  answered true false false p q k = rw (not-short, s .sound, p, here, fits, q, in-turn p, k)
+  answered false o r p q k = rw (not-short, s .sound, p)
+
+  pub welcome : (e .reply .number ≡ 7 → ⊥) × (e .reply .number ≡ 8 → ⊥) × (e .reply .number ≡ 6 → messageSender msg .0 ≡ j .0)
+  welcome = go (m .state .up) (eqb (messageSender msg .0) (j .0)) (leb (m .state .held + length (takenFrom m msg .new)) historyMost) refl refl refl
+    where
+      go :
+          (b o r : Bool)
+          → m .state .up ≡ b
+          → eqb (messageSender msg .0) (j .0) ≡ o
+          → leb (m .state .held + length (takenFrom m msg .new)) historyMost ≡ r
+          → (e .reply .number ≡ 7 → ⊥) × (e .reply .number ≡ 8 → ⊥) × (e .reply .number ≡ 6 → messageSender msg .0 ≡ j .0)
+      go true true r p q k = let a = answered true true r p q k in (λ h. omega (arith, a, h), λ h. omega (arith, a, h), λ h. eqb-true (messageSender msg .0) (j .0) q)
+      go true false true p q k = let a = answered true false true p q k in (λ h. omega (arith, a, h), λ h. omega (arith, a, h), λ h. absurd (omega (arith, a, h)))
+      go true false false p q k = let a = answered true false false p q k in (λ h. omega (arith, a, h), λ h. omega (arith, a, h), λ h. absurd (omega (arith, a, h)))
+      go false o r p q k = let a = answered false o r p q k in (λ h. omega (arith, a, h), λ h. omega (arith, a, h), λ h. absurd (omega (arith, a, h)))
+
+-- ---- 6 is for unsound memories and unfit messages
+abbrev isSix : Option Refusal → Bool
+isSix none = false
+isSix (some r) = eqb (refusalNumber r) 6
+
+row-other : (b : Bool) (r : Refusal) → isSix (some r) ≡ false → isSix (given b r) ≡ false
+row-other true r e = e
+row-other false r e = refl
+
+rows-other : (l : List (Option Refusal)) → Each (λ r. isSix r ≡ false) l → isSix (first l) ≡ false
+rows-other [] h = refl
+rows-other (none ∷ l) h = rows-other l (h .1)
+rows-other (some r ∷ l) h = h .0
+
+six-row : (r : Option Refusal) (m : Memory) (e : Effect) → e .reply .number ≡ 0 → unless r m e .reply .number ≡ 6 → isSix r ≡ true
+six-row none m e z h = absurd (omega arith)
+six-row (some r) m e z h = eq-eqb (refusalNumber r) 6 h
+
+served-zero : (m : Memory) (i : PhoneId) (q : Request) → served m i q .reply .number ≡ 0
+unfolding served
+served-zero m i q = reply-number q _
+
+module _ (m : Memory) (ok : sound m ≡ true) where
+  sound-row : isSix (given (not (sound m)) Unsound) ≡ false
+  sound-row = rw ok
+
+  -- rows that begin with the head and have no 6 behind it
+  not-six : (wrong : Bool) (rest : List (Option Refusal)) (e : Effect) → e .reply .number ≡ 0 → Each (λ r. isSix r ≡ false) rest → unless (first (head m wrong ++ rest)) m e .reply .number ≡ 6 → ⊥
+  not-six wrong rest e z h six =
+      true≢false
+      (sym (six-row (first (head m wrong ++ rest)) m e z six)
+      ∙ rows-other (head m wrong ++ rest) (row-other (short m) TooShort refl, (sound-row, (row-other wrong NotUp refl, h))))
+
+  -- a request's rows behind the head
+  abbrev requestRows : ServerId → PhoneId → Request → Vector → List (Option Refusal) → List (Option Refusal)
+  requestRows j i q v last =
+      given (outOfRange m j i q v) OutOfRange
+      ∷ given (behind (m .state .vector) v) NotYet
+      ∷ given (isWrite q && leb historyMost (m .state .held)) HistoryFull
+      ∷ given (isWrite q && leb logMost (logCount (m .image))) LogFull
+      ∷ last
+
+  request-other : (j : ServerId) (i : PhoneId) (q : Request) (v : Vector) (last : List (Option Refusal)) → Each (λ r. isSix r ≡ false) last → Each (λ r. isSix r ≡ false) (requestRows j i q v last)
+  request-other j i q v last h = (
+    row-other (outOfRange m j i q v) OutOfRange refl,
+    (
+      row-other (behind (m .state .vector) v) NotYet refl,
+      (
+        row-other (isWrite q && leb historyMost (m .state .held)) HistoryFull refl,
+        (row-other (isWrite q && leb logMost (logCount (m .image))) LogFull refl, h),
+      ),
+    ),
+  )
+
+  here-other : (j : ServerId) → Each (λ r. isSix r ≡ false) (given (elsewhere m j) OutOfRange ∷ [])
+  here-other j = (row-other (elsewhere m j) OutOfRange refl, tt)
+
+  pub never-six : (j : ServerId) (w : What) (v : Vector) (msg : List ℕ) → (w ≡ what.Update → ⊥) → happens m j w v msg .reply .number ≡ 6 → ⊥
+  unfolding request requestCut cut recovery requestRefusals plainRefusals cutAfter
+  never-six j (what.Request i q) v msg other =
+      not-six (isDown m) (requestRows j i q v []) (served m i q) (served-zero m i q) (request-other j i q v [] tt)
+  never-six j (what.RequestCut i q k) v msg other =
+      not-six (isDown m) (requestRows j i q v (cutRefusal m i q k ∷ [])) (cutAfter m i q k) refl
+      (request-other j i q v (cutRefusal m i q k ∷ []) (row-other (not (leb k (length (plan m i q)))) OutOfRange refl, tt))
+  never-six j what.Cut v msg other =
+      not-six (isDown m) (given (elsewhere m j) OutOfRange ∷ []) (finished (withState (downOf (m .state)) m)) refl (here-other j)
+  never-six j what.Update v msg other = absurd (other refl)
+  never-six j what.Recovery v msg other =
+      not-six (m .state .up) (given (elsewhere m j) OutOfRange ∷ []) (finished (recover m)) refl (here-other j)
+
+pub welcomed : (n : ℕ) (f : Farm) → Reached n f → (j : ServerId) → j .0 < n → Welcome n f j
+unfolding stepAt step
+welcomed n f x j low =
+    record {
+      notSix = λ w v msg. never-six (f .servers (j .0)) (all-sound n f x j low) j w v msg;
+      sixItsOwn = λ msg y. welcome n f x j low msg y .2;
+      notSeven = λ msg y. welcome n f x j low msg y .0;
+      notEight = λ msg y. welcome n f x j low msg y .1;
+    }

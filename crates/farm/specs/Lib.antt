@@ -1,0 +1,3 @@
+pub mod Farm
+pub mod Act
+pub mod Demand
