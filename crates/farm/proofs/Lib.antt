@@ -11,3 +11,4 @@ pub mod Runs
 pub mod Demands
 pub mod Welcome
 pub mod Worked
+pub mod Limits

@@ -35,7 +35,8 @@ use Rattle.farm.proofs.Held.{Sane, keeps, Kept}
 use Rattle.farm.proofs.Known.{Genuine, flight-grows, performed-grows}
 use Rattle.farm.proofs.Taken.{taken-held, mine-stays}
 use Rattle.farm.proofs.Inv.{lists-run, numbered, Inv, Onward, still, next, grows, seats-next, deeds-next}
-use Rattle.farm.proofs.Steps.{refusal-number, step-sane, unsound-refused, refused-same, kept-same, kept-more, kept-cut, kept-update, kept-recover, kept-vector, servers-few}
+use Rattle.rules.proofs.Cases.{refusal-number, unsound-refused, refused-same}
+use Rattle.farm.proofs.Steps.{step-sane, kept-same, kept-more, kept-cut, kept-update, kept-recover, kept-vector, servers-few}
 
 -- ---- a call that is done was not refused
 pub done-none : (r : Option Refusal) (m : Memory) (e : Effect) → unless r m e .reply .number ≡ 0 → r ≡ none

@@ -1,10 +1,9 @@
 -- What a step leaves of a sane memory: a sane one, and of the writes kept all, these and more, or those that a cut spares.
 -- Assumes nothing.
 use Prim.Native.Nat.{ℕ, _≤_, _<_}
-use mathlib.Core.Bool.{Bool, true, false, cond, true≢false}
+use mathlib.Core.Bool.{Bool, true, false, cond}
 use mathlib.Core.List.{List, [], _∷_, _++_, append-nil}
 use mathlib.Core.Logic.{_⊎_, inl, inr}
-use mathlib.Core.Option.{Option, none, some}
 use mathlib.Core.Path.{_≡_, refl, ap, sym, subst, _∙_}
 use native.Mathlib.Decide.{ℕ-discrete}
 use native.Mathlib.Omega.{arith}
@@ -14,7 +13,6 @@ use Rattle.notes.specs.Lists.{every}
 use Rattle.notes.specs.Bytes.{toBytes}
 use Rattle.notes.specs.Reply.{first}
 use Rattle.notes.specs.Index.{servers}
-use Rattle.notes.specs.Vector.{zeros}
 use Rattle.notes.specs.Record.{decode, encode, wellFormed}
 use Rattle.notes.specs.Message.{historyMost}
 use Rattle.notes.specs.declared.index.PhoneId.{PhoneId}
@@ -26,127 +24,35 @@ use Rattle.notes.proofs.Numbers.{AllBelow, from-to}
 use Rattle.notes.proofs.Records.{length-records, length-recordBytes}
 use Rattle.notes.proofs.Pieces.{each-also}
 use Rattle.notes.proofs.Messages.{Server, server-facts}
-use Rattle.rules.specs.declared.answer.Refusal.{Refusal}
-use Rattle.rules.specs.declared.answer.Refusal.the-variants.{OutOfRange, NotUp, NotYet, HistoryFull, LogFull, Unsound, Gap, OwnAhead, TooShort}
 use Rattle.rules.specs.declared.event.Event.{Event}
 use Rattle.rules.specs.declared.event.Request.{Request}
 use Rattle.rules.specs.declared.event.Request.the-variants.{Read, Write}
-use Rattle.rules.specs.declared.event.What.{What}
 use Rattle.rules.specs.declared.event.What.the-variants as what
 use Rattle.rules.specs.declared.state.ReadTable.{ReadTable}
 use Rattle.rules.specs.declared.state.State.{State}
-use Rattle.rules.specs.Writes.{writesOf, countOf, tally, winner}
+use Rattle.rules.specs.Writes.{writesOf, countOf, tally}
 use Rattle.rules.specs.Memory.{Memory, memory, withState, downOf, noting, noReads, writes}
 use Rattle.rules.specs.Image.{historySize, imageSize, headerOk, checkpoint, log}
 use Rattle.rules.specs.Recovery.{recovered, recoveredState, recoveredHistory, recover}
 use Rattle.rules.specs.Sound.{isZero, suits, soundUp, soundDown, sound}
 use Rattle.rules.specs.Stores.{stored}
-use Rattle.rules.specs.Answer.{Effect, refusalReply, replying, finished}
-use Rattle.rules.specs.Refusals.{isDown}
-use Rattle.rules.specs.Request.{newRecord, written, noted, cleared, valueOf, due, ownPlan, plan, ready, performed, replyTo, served, cutAfter, requestRefusals, cutRefusal, request, requestCut}
-use Rattle.rules.specs.Update.{takenFrom, updated, updateRefusals, update}
-use Rattle.rules.specs.Step.{plainRefusals, cut, recovery, happens, step}
+use Rattle.rules.specs.Request.{newRecord, written, noted, cleared, due, ownPlan, plan, ready, performed, served, cutAfter}
+use Rattle.rules.specs.Update.{takenFrom, updated}
+use Rattle.rules.specs.Step.{step}
 use Rattle.rules.proofs.Phones.{reads-cleared}
 use Rattle.rules.proofs.Writes.{InTurn, From, same-server}
 use Rattle.rules.proofs.Stores.{Shows, length-stored, laid-of}
 use Rattle.rules.proofs.Sound.{Facts, facts, kept-all, log-empty, own-again, others-none}
 use Rattle.rules.proofs.Open.{Up, opened, own-low, recovers-lacked}
-use Rattle.rules.proofs.Passed.{Head, Asked, Brought, Plain, unless-either, asked, asked-cut, brought-known, plain}
+use Rattle.rules.proofs.Passed.{Asked, Brought}
 use Rattle.rules.proofs.Newest.{like}
 use Rattle.rules.proofs.Reading.{noted-is, cp, OnTheWay, before, between, after, checkpoint-way}
 use Rattle.rules.proofs.Writing as writing
 use Rattle.rules.proofs.Keeps.{appended-new, recoveredIn, recovered-fit, recovered-writes, step-sound}
 use Rattle.rules.proofs.Stays.{step-bytes}
+use Rattle.rules.proofs.Cases.{step-cases}
 use Rattle.farm.proofs.Prefix.{Pre, pre-refl, pre-take, pre-keep}
 use Rattle.farm.proofs.Held.{Sane, keeps, Kept}
-
--- ---- what a step does: it refuses, or one of five things of which more is known
-pub record Cases (m : Memory) (j : ServerId) (v : Vector) (msg : List ℕ) (P : Effect → Type 0) : Type 0 where
-  pub refuses : (k : Refusal) → P (replying (refusalReply k) zeros m)
-  pub serves : (i : PhoneId) (q : Request) → Asked m j i q v → P (served m i q)
-  pub cutServing : (i : PhoneId) (q : Request) (k : ℕ) → Asked m j i q v → P (cutAfter m i q k)
-  pub cuts : Plain m (isDown m) j → P (finished (withState (downOf (m .state)) m))
-  pub takes : Brought m j msg → P (finished (updated m (takenFrom m msg)))
-  pub recovers : Plain m (m .state .up) j → P (finished (recover m))
-
-pub step-cases :
-    (m : Memory) (e : Event) (v : Vector) (msg : List ℕ) (P : Effect → Type 0) → Cases m (e .server) v msg P → P (step m e v msg)
-unfolding step request requestCut cut update recovery
-step-cases m e v msg P c = go (e .what)
-  where
-    j : ServerId
-    j = e .server
-
-    go : (w : What) → P (happens m j w v msg)
-    go (what.Request i q) =
-        unless-either P (first (requestRefusals m j i q v)) m (served m i q) (c .refuses) (λ r. c .serves i q (asked m j i q v r))
-    go (what.RequestCut i q k) =
-        unless-either P (first (requestRefusals m j i q v ++ cutRefusal m i q k ∷ [])) m (cutAfter m i q k) (c .refuses)
-        (λ r. c .cutServing i q k (asked-cut m j i q v k r .0))
-    go what.Cut =
-        unless-either P (first (plainRefusals m (isDown m) j)) m (finished (withState (downOf (m .state)) m)) (c .refuses)
-        (λ r. c .cuts (plain m (isDown m) j r))
-    go what.Update =
-        unless-either P (first (updateRefusals m j msg)) m (finished (updated m (takenFrom m msg))) (c .refuses)
-        (λ r. c .takes (brought-known m j msg r))
-    go what.Recovery =
-        unless-either P (first (plainRefusals m (m .state .up) j)) m (finished (recover m)) (c .refuses)
-        (λ r. c .recovers (plain m (m .state .up) j r))
-
--- ---- refusals
-pub refusal-number : (k : Refusal) → refusalReply k .number ≡ 0 → ⊥
-refusal-number OutOfRange e = omega arith
-refusal-number NotUp e = omega arith
-refusal-number NotYet e = omega arith
-refusal-number HistoryFull e = omega arith
-refusal-number LogFull e = omega arith
-refusal-number Unsound e = omega arith
-refusal-number Gap e = omega arith
-refusal-number OwnAhead e = omega arith
-refusal-number TooShort e = omega arith
-
-pub reply-number : (q : Request) (m : Memory) → replyTo q m .number ≡ 0
-unfolding replyTo
-reply-number (Write cell value time) m = refl
-reply-number (Read cell) m = go (winner cell (writes m))
-  where
-    go : (r : Option Record) → valueOf r (m .state .vector) .number ≡ 0
-    go none = refl
-    go (some r) = refl
-
-module _ (m : Memory) where
-  -- a refusal changes nothing
-  pub refused-same :
-      (e : Event) (v : Vector) (msg : List ℕ) → (step m e v msg .reply .number ≡ 0 → ⊥) → step m e v msg .after ≡ m
-  unfolding served cutAfter
-  refused-same e v msg =
-      step-cases m e v msg (λ x. (x .reply .number ≡ 0 → ⊥) → x .after ≡ m)
-      (record {
-        refuses = λ k r. refl;
-        serves = λ i q a r. absurd (r (reply-number q _));
-        cutServing = λ i q k a r. absurd (r refl);
-        cuts = λ a r. absurd (r refl);
-        takes = λ a r. absurd (r refl);
-        recovers = λ a r. absurd (r refl);
-      })
-
-  pub unsound-refused :
-      sound m ≡ false
-      → (e : Event) (v : Vector) (msg : List ℕ)
-      → (step m e v msg .after ≡ m) × (step m e v msg .reply .number ≡ 0 → ⊥)
-  unsound-refused f e v msg =
-      step-cases m e v msg (λ x. (x .after ≡ m) × (x .reply .number ≡ 0 → ⊥))
-      (record {
-        refuses = λ k. (refl, refusal-number k);
-        serves = λ i q a. absurd (never (a .head));
-        cutServing = λ i q k a. absurd (never (a .head));
-        cuts = λ a. absurd (never (a .head));
-        takes = λ a. absurd (never (a .head));
-        recovers = λ a. absurd (never (a .head));
-      })
-    where
-      never : Head m → ⊥
-      never h = true≢false (sym (h .sound) ∙ f)
 
 -- ---- what is kept
 pub kept-more : (j : ServerId) (h added g : List Record) → g ≡ h ++ added → Kept j h added g

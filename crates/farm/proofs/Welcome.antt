@@ -39,7 +39,8 @@ use Rattle.farm.specs.Demand.{Reached, Recovery, Welcome}
 use Rattle.farm.proofs.Prefix.{each-mem}
 use Rattle.farm.proofs.Held.{Sane, keeps}
 use Rattle.farm.proofs.Known.{Genuine}
-use Rattle.farm.proofs.Steps.{reply-number, kept-vector}
+use Rattle.rules.proofs.Cases.{served-number}
+use Rattle.farm.proofs.Steps.{kept-vector}
 use Rattle.farm.proofs.Taken.{none-refused}
 use Rattle.farm.proofs.Inv.{numbered, lists-run, Inv}
 use Rattle.farm.proofs.Runs.{reached-inv}
@@ -126,10 +127,6 @@ six-row : (r : Option Refusal) (m : Memory) (e : Effect) → e .reply .number �
 six-row none m e z h = absurd (omega arith)
 six-row (some r) m e z h = eq-eqb (refusalNumber r) 6 h
 
-served-zero : (m : Memory) (i : PhoneId) (q : Request) → served m i q .reply .number ≡ 0
-unfolding served
-served-zero m i q = reply-number q _
-
 module _ (m : Memory) (ok : sound m ≡ true) where
   sound-row : isSix (given (not (sound m)) Unsound) ≡ false
   sound-row = rw ok
@@ -168,7 +165,7 @@ module _ (m : Memory) (ok : sound m ≡ true) where
   pub never-six : (j : ServerId) (w : What) (v : Vector) (msg : List ℕ) → (w ≡ what.Update → ⊥) → happens m j w v msg .reply .number ≡ 6 → ⊥
   unfolding request requestCut cut recovery requestRefusals plainRefusals cutAfter
   never-six j (what.Request i q) v msg other =
-      not-six (isDown m) (requestRows j i q v []) (served m i q) (served-zero m i q) (request-other j i q v [] tt)
+      not-six (isDown m) (requestRows j i q v []) (served m i q) (served-number m i q) (request-other j i q v [] tt)
   never-six j (what.RequestCut i q k) v msg other =
       not-six (isDown m) (requestRows j i q v (cutRefusal m i q k ∷ [])) (cutAfter m i q k) refl
       (request-other j i q v (cutRefusal m i q k ∷ []) (row-other (not (leb k (length (plan m i q)))) OutOfRange refl, tt))

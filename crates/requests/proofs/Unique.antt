@@ -8,8 +8,13 @@ use Rattle.rules.specs.declared.answer.Outcome.{Outcome}
 use Rattle.rules.specs.declared.event.What.the-variants as what
 use Rattle.rules.specs.Step.{step}
 use Rattle.rules.proofs.One.{step-one}
+use Rattle.sound.proofs.Unique.{heads-known}
+use Rattle.requests.proofs.admit.request_head.Reads as request-head
 use Rattle.requests.proofs.request.request.Reads as request
 use Rattle.requests.proofs.request.request_cut.Reads as request-cut
+
+pub request-heads : One request-head.Post (λ k r s. r)
+request-heads k a x y s t p q = heads-known x y p q
 
 -- with each byte of history and image
 pub requests : One {O = Outcome × List ℕ × List ℕ} request.Post (λ k r s. (r, now (s .1 .1 .1 .1 .1 .0), now (s .1 .1 .1 .1 .1 .1 .0)))

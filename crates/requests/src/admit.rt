@@ -86,7 +86,8 @@ fn full(s: State, q: Request, image: &[u8]) -> Head
     Head::Passed
 }
 
-pub(crate) fn request_head(
+// The first refusal of a request, for a caller whose own test comes after it.
+pub fn request_head(
     s: State,
     at: ServerId,
     phone: PhoneId,

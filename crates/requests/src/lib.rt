@@ -1,5 +1,5 @@
 // A phone's request, served or cut after some of its stores. It meets the rules for every input.
-mod admit;
+pub mod admit;
 mod read;
 pub mod request;
 mod stores;

@@ -36,7 +36,7 @@ use Rattle.rules.proofs.Reading.{up, noted-is}
 use Rattle.rules.proofs.Unique.{effects-known, verdicts-known, status-known, filled-known}
 
 -- ---- the vector of every effect has eight counts
-abbrev Eight : Effect → Type 0
+abbrev pub Eight : Effect → Type 0
 Eight e = length (e .vector .counts) ≡ servers
 
 -- a request's noting and a checkpoint's clearing leave V
@@ -57,7 +57,7 @@ served-eight m j i (Write cell value time) v a =
     eight m (up m j i (Write cell value time) v a) i cell value time (a .phone) (a .cell) (a .room refl)
 
 module _ (m : Memory) (v : Vector) (msg : List ℕ) where
-  happens-eight : (j : ServerId) (w : What) → Eight (happens m j w v msg)
+  pub happens-eight : (j : ServerId) (w : What) → Eight (happens m j w v msg)
   unfolding request requestCut cut update recovery cutAfter
   happens-eight j (what.Request i q) =
       unless-either Eight (first (requestRefusals m j i q v)) m (served m i q) (λ k. refl)

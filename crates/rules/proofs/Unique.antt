@@ -34,10 +34,10 @@ refusalOf k =
     OutOfRange
 
 module _ {A : Type 0} (values : List ℕ → A) (refusal : Refusal → A) where
-  abbrev back : Reply → A
+  abbrev pub back : Reply → A
   back r = cond (eqb (r .number) 0) (values (r .values)) (refusal (refusalOf (r .number)))
 
-  refused-back : (r : Refusal) → back (refusalReply r) ≡ refusal r
+  pub refused-back : (r : Refusal) → back (refusalReply r) ≡ refusal r
   refused-back OutOfRange = refl
   refused-back NotUp = refl
   refused-back NotYet = refl

@@ -120,15 +120,21 @@ pub record Accepted (i : List ℕ) (o : ServerId) : Type 0 where
   pub origin : o .0 < servers
 
 module _ (i : List ℕ) (o : ServerId) where
-  -- the bytes in its checkpoint or else its log are those where the record stands
   module _ (n : ℕ) (a : Accepted i o) where
+    -- a write's place among the records of a part is that in the image's checkpoint, or log
+    pub kept-place : placeOf o n (records (checkpointCount i) (checkpointPart i)) ≡ placeOf o n (checkpoint i)
+    unfolding checkpoint
+    kept-place = rw (records-in (checkpointCount i) historySize (checkpointArea i) (omega arith))
+
+    pub logged-place : placeOf o n (records (logCount i) (logPart i)) ≡ placeOf o n (log i)
+    unfolding log
+    logged-place = rw (records-in (logCount i) (recordSize * logMost) (logArea i) (omega arith))
+
+    -- the bytes in its checkpoint or else its log are those where the record stands
     pub part-of-parts : partOf (checkpointPart i) (checkpointCount i) (logPart i) (logCount i) o n ≡ bytesAt i (standsAt i o n)
     unfolding partOf standsAt checkpoint log
     part-of-parts =
-        rw (
-          records-in (checkpointCount i) historySize (checkpointArea i) (omega arith),
-          records-in (logCount i) (recordSize * logMost) (logArea i) (omega arith),
-        )
+        rw (kept-place, logged-place)
         (go
         (placeOf o n (checkpoint i))
         (placeOf o n (log i))

@@ -1,7 +1,7 @@
 -- Any two outcomes that meet a public call's statement are equal: a theorem for each call, about the very clauses of its contract.
 -- Assumes nothing.
 use Prim.Native.Nat.{ℕ}
-use mathlib.Core.List.{List}
+use mathlib.Core.List.{List, [], _∷_}
 use mathlib.Core.Option.{Option, none, some}
 use mathlib.Core.Path.{_≡_, refl, sym, _∙_}
 use denote.Ref.{now}
@@ -11,14 +11,19 @@ use Rattle.rules.specs.declared.answer.Message.{Message}
 use Rattle.rules.specs.declared.answer.Outcome.{Outcome}
 use Rattle.rules.specs.declared.answer.Refusal.{Refusal}
 use Rattle.sound.specs.Head.{headRefusal}
+use Rattle.sound.specs.LookUp.{foundReply}
 use Rattle.sound.specs.declared.head.Head.{Head}
 use Rattle.sound.specs.declared.head.Head.the-variants.{Passed, Refused}
+use Rattle.sound.specs.declared.look_up.Found.{Found}
+use Rattle.sound.specs.declared.look_up.Found.the-variants as found
+use Rattle.rules.proofs.Unique.{back, refused-back}
 use Rattle.rules.proofs.One.{judge-one, start-one, status-one, look-up-one, message-one}
 use Rattle.sound.proofs.head.down_head.Reads as down-head
 use Rattle.sound.proofs.head.sound_head.Reads as sound-head
 use Rattle.sound.proofs.head.up_head.Reads as up-head
 use Rattle.sound.proofs.judge.judge.Reads as judge
 use Rattle.sound.proofs.look_up.look_up.Reads as look-up
+use Rattle.sound.proofs.look_up.stands_at.Reads as stands-at
 use Rattle.sound.proofs.message.message.Reads as message
 use Rattle.sound.proofs.refusal.number.Reads as number
 use Rattle.sound.proofs.start.start.Reads as start
@@ -38,7 +43,7 @@ unfolding headOf
 head-back Passed = refl
 head-back (Refused k) = refl
 
-heads-known : {r : Option Refusal} (x y : Head) → headRefusal x ≡ r → headRefusal y ≡ r → x ≡ y
+pub heads-known : {r : Option Refusal} (x y : Head) → headRefusal x ≡ r → headRefusal y ≡ r → x ≡ y
 heads-known x y p q = known-by headRefusal headOf head-back x y (p ∙ sym q)
 
 pub sound-heads : One sound-head.Post (λ k r s. r)
@@ -82,3 +87,16 @@ starts k a x y s t p q = let e = start-one x y _ _ _ _ _ _ _ _ p q in λ i. (e .
 -- a part is known by its bytes, with the number beside it
 pub look-ups : One {O = ℕ × List ℕ} look-up.Post (λ k r s. (now (s .1 .1 .1 .0), now r))
 look-ups k a x y s t p q = let e = look-up-one _ _ _ _ _ _ _ p q in λ i. (e .0 i, e .1 i)
+
+-- a place is known by its number and values
+abbrev placeOf : List ℕ → Found
+placeOf [] = found.NotThere
+placeOf (p ∷ l) = found.At p
+
+place-back : (a : Found) → back placeOf found.Refused (foundReply a) ≡ a
+place-back (found.At p) = refl
+place-back found.NotThere = refl
+place-back (found.Refused k) = refused-back placeOf found.Refused k
+
+pub places : One stands-at.Post (λ k r s. r)
+places k a x y s t p q = known-by foundReply (back placeOf found.Refused) place-back x y (p ∙ sym q)

@@ -4,9 +4,9 @@ ghost use Prim.Native.Nat.{_*_, _≤_, _<_};
 ghost use lib.ListN.{length};
 ghost use Rattle.notes.specs.Index.{servers};
 ghost use Rattle.notes.specs.Record.{recordSize, decode, records};
-ghost use Rattle.rules.specs.Calls.{isWrite, placeOf, lookUpRefusal, found, lookUp};
+ghost use Rattle.rules.specs.Calls.{isWrite, placeOf, standsAt, lookUpRefusal, replyUnless, found, lookUp};
 ghost use Rattle.sound.specs.Head.{headRefusal};
-ghost use Rattle.sound.specs.LookUp.{placed, partOf};
+ghost use Rattle.sound.specs.LookUp.{placed, partOf, placeReply, foundReply};
 use crate::head::Head;
 use crate::image::Image;
 use crate::refusal;
@@ -20,6 +20,13 @@ use rules::answer::Refusal;
 pub(crate) enum Place {
     At(usize),
     Nothing,
+}
+
+// Where in an image a write's record stands.
+pub enum Found {
+    At(usize),
+    NotThere,
+    Refused(Refusal),
 }
 
 // The record in 28 bytes is the origin's write of this number. One past 16 bits is no write's.
@@ -103,4 +110,23 @@ pub fn look_up<'a>(image: &'a [u8], origin: ServerId, number: u32, code: &mut u8
     let checkpoint = &image[Image::CHECKPOINT_AT..Image::LOG_AT];
     let log = &image[Image::LOG_AT..Image::LEN];
     record_in(checkpoint, held.checkpoint, log, held.log, origin, number)
+}
+
+// The place in the image of that write's record, for a caller that takes numbers only.
+pub fn stands_at(image: &[u8], origin: ServerId, number: u32) -> Found
+    ensures { λ r. ⌜ foundReply r ≡ replyUnless (lookUpRefusal (now (image .entry)) origin) (placeReply (standsAt (now (image .entry)) origin number)) ⌝ }
+{
+    if let Head::Refused(k) = first_refusal(image, origin) {
+        return Found::Refused(k);
+    }
+    let held = crate::raw::counts(image);
+    let checkpoint = &image[Image::CHECKPOINT_AT..Image::LOG_AT];
+    if let Place::At(k) = find(checkpoint, held.checkpoint, origin, number) {
+        return Found::At(Image::CHECKPOINT_AT + Record::LEN * k);
+    }
+    let log = &image[Image::LOG_AT..Image::LEN];
+    let Place::At(k) = find(log, held.log, origin, number) else {
+        return Found::NotThere;
+    };
+    Found::At(Image::LOG_AT + Record::LEN * k)
 }

@@ -1,0 +1,8 @@
+pub mod Words
+pub mod Stored
+pub mod Back
+pub mod Called
+pub mod Requested
+pub mod Reported
+pub mod Stateless
+pub mod Unique

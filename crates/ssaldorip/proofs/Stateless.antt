@@ -1,0 +1,101 @@
+-- What the calls without a state answer: a place or a number, and a session's bytes raised.
+-- Assumes nothing.
+use Prim.Native.Nat.{ℕ, _≤_, _<_}
+use mathlib.Core.List.{List, [], _∷_}
+use mathlib.Core.Option.{Option, none, some, Option·map, Option·some-ne-none}
+use mathlib.Core.Path.{_≡_, refl, sym, ap}
+use native.Mathlib.Omega.{arith}
+use borrow.Author.Tests.{lt-ltb, le-ltb}
+use lib.ListN.{length, getD}
+use lib.Seq.{sets}
+use Rattle.notes.specs.Reply.{Reply, done, orElse}
+use Rattle.notes.specs.Vector.{maximum, vectorFrom, vectorBytes}
+use Rattle.notes.specs.declared.index.ServerId.{ServerId}
+use Rattle.notes.proofs.Lists.{sets-front}
+use Rattle.notes.proofs.Vectors.{length-vectorBytes, length-vectorFrom, length-maximum}
+use Rattle.rules.specs.declared.answer.Refusal.{Refusal}
+use Rattle.rules.specs.Image.{imageSize, checkpointAt, checkpointCount, logCount, checkpointPlace, logPlace, checkpointArea, logArea, checkpoint, log}
+use Rattle.rules.specs.Calls.{placeOf, standsAt, lookUpRefusal, replyUnless}
+use Rattle.sound.specs.LookUp.{placeReply}
+use Rattle.sound.proofs.LookUp.{Accepted, accepted, place-among}
+use Rattle.ssaldorip.specs.Calls.{vectorSize, left, placeOrNumber, raise}
+
+-- ---- a look-up
+
+-- a reply's first value, or its number where it has none
+abbrev pub valueOr : Reply → ℕ
+valueOr r = getD (r .values) 0 (r .number)
+
+pub place-or-number : (x : Option Refusal) (y : Option ℕ) → valueOr (replyUnless x (placeReply y)) ≡ placeOrNumber x y
+unfolding placeOrNumber
+place-or-number (some k) y = refl
+place-or-number none (some p) = refl
+place-or-number none none = refl
+
+module _ (i : List ℕ) (o : ServerId) (n p : ℕ) where
+  -- a place is past the image's header, so it is no refusal's number
+  pub stands-past : standsAt i o n ≡ some p → checkpointAt ≤ p
+  unfolding standsAt
+  stands-past e = go (placeOf o n (checkpoint i)) (placeOf o n (log i)) e
+    where
+      go : (x y : Option ℕ) → orElse (Option·map checkpointPlace x) (Option·map logPlace y) ≡ some p → checkpointAt ≤ p
+      go (some k) y e = let z : checkpointPlace k ≡ p = cc in omega arith
+      go none (some k) e = let z : logPlace k ≡ p = cc in omega arith
+      go none none e = absurd (Option·some-ne-none p (sym e))
+
+  -- and within the image
+  stands-within : lookUpRefusal i o ≡ none → standsAt i o n ≡ some p → p < imageSize
+  unfolding standsAt checkpoint log
+  stands-within r e =
+      go
+      (accepted i o r)
+      (placeOf o n (checkpoint i))
+      (placeOf o n (log i))
+      (place-among o n (checkpointCount i) (checkpointArea i))
+      (place-among o n (logCount i) (logArea i))
+      e
+    where
+      go :
+          Accepted i o
+          → (x y : Option ℕ)
+          → ((k : ℕ) → x ≡ some k → k < checkpointCount i)
+          → ((k : ℕ) → y ≡ some k → k < logCount i)
+          → orElse (Option·map checkpointPlace x) (Option·map logPlace y) ≡ some p
+          → p < imageSize
+      go a (some k) y f g e = let z : checkpointPlace k ≡ p = cc in omega (arith, f k refl)
+      go a none (some k) f g e = let z : logPlace k ≡ p = cc in omega (arith, g k refl)
+      go a none none f g e = absurd (Option·some-ne-none p (sym e))
+
+  pub place-within : done (p ∷ []) ≡ replyUnless (lookUpRefusal i o) (placeReply (standsAt i o n)) → p < imageSize
+  place-within e = go (lookUpRefusal i o) (standsAt i o n) stands-within (ap (λ (r : Reply). r .values) e)
+    where
+      go :
+          (x : Option Refusal) (y : Option ℕ)
+          → (x ≡ none → y ≡ some p → p < imageSize)
+          → p ∷ [] ≡ replyUnless x (placeReply y) .values
+          → p < imageSize
+      go (some k) y f e = let z : _≡_ {A = ℕ} 0 1 = cc in absurd (omega arith)
+      go none (some q) f e = f refl (cc)
+      go none none f e = let z : _≡_ {A = ℕ} 0 1 = cc in absurd (omega arith)
+
+-- ---- a session
+module _ (s v : List ℕ) where
+  pub raise-short : length s < vectorSize → raise s v ≡ left 9 s
+  unfolding raise
+  raise-short h = rw (lt-ltb (length s) vectorSize h)
+
+  module _ (long : vectorSize ≤ length s) where
+    pub raise-by-short : length v < vectorSize → raise s v ≡ left 9 s
+    unfolding raise
+    raise-by-short h = rw (le-ltb (length s) vectorSize long, lt-ltb (length v) vectorSize h)
+
+    pub raise-done : vectorSize ≤ length v → raise s v ≡ left 0 (sets s 0 (vectorBytes (maximum (vectorFrom s) (vectorFrom v))))
+    unfolding raise
+    raise-done h =
+        let m = maximum (vectorFrom s) (vectorFrom v) in
+        let l = length-vectorBytes m (length-maximum (vectorFrom s) (vectorFrom v) (length-vectorFrom s) (length-vectorFrom v)) in
+        rw (
+          le-ltb (length s) vectorSize long,
+          le-ltb (length v) vectorSize h,
+          sets-front (vectorBytes m) s (length (vectorBytes m)) refl (omega arith),
+        )

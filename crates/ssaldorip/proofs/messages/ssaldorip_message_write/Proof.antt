@@ -1,0 +1,24 @@
+-- `messages::ssaldorip_message_write` meets its contract: the number of what was written, and the output.
+-- Assumes nothing.
+use borrow.Author.Needs.{needs}
+use Rattle.ssaldorip.proofs.messages.ssaldorip_message_write.Statement.{statement}
+use Rattle.ssaldorip.proofs.messages.ssaldorip_message_write.Tie as tie
+
+returns : tie.Need-returns
+returns c = rw (← c .before .before .before .before .write .ensures, c .enum-told .given .1)
+
+returns-2 : tie.Need-returns-2
+returns-2 c = rw (c .number .ensures, ← c .before .before .before .before .before .before .write .ensures, c .before .before .written .given .1)
+
+pub ssaldorip-message-write-spec : {M : Type 1} → statement M
+ssaldorip-message-write-spec =
+    tie.close
+    (tie.spec
+    (search needs)
+    (search needs)
+    (search needs)
+    (search needs)
+    (search needs)
+    returns
+    (search needs)
+    returns-2)

@@ -1,0 +1,41 @@
+-- `steps::cut_after` meets its contract: a vector too short, or the step.
+-- Assumes nothing.
+use mathlib.Core.List.{[]}
+use mathlib.Core.Path.{ap, _∙_}
+use Rattle.notes.specs.Vector.{vectorFrom}
+use Rattle.notes.specs.declared.vector.Vector.{Vector}
+use Rattle.rules.specs.Phones.{phone}
+use Rattle.rules.specs.declared.event.What.the-variants as what
+use Rattle.ssaldorip.specs.Calls.{vectorSize, lent, call, happening, noReply}
+use Rattle.ssaldorip.proofs.Called.{short-vector, vector-enough}
+use lib.ListN.{length}
+use borrow.Author.Needs.{needs}
+use Rattle.ssaldorip.proofs.steps.cut_after.Statement.{statement}
+use Rattle.ssaldorip.proofs.steps.cut_after.Tie as tie
+
+returns : tie.Need-returns
+returns c =
+    let a = c .before .before .before .before .before .args in
+    short-vector (length (a .asked .now)) 0 (happening (a .server) (what.RequestCut (phone (a .phone)) (a .q) (a .stores)) (vectorFrom (a .asked .now)) []) noReply (lent (a .state .now) (a .history .now) (a .image .now) []) (c .if1 .taken)
+
+returns-2 : tie.Need-returns-2
+returns-2 c =
+    let a = c .before .before .before .before .before .before .before .before .before .before .before .before .before .before .before .before .before .args in
+    let l = lent (a .state .now) (a .history .now) (a .image .now) [] in
+    let w = what.RequestCut (phone (a .phone)) (a .q) (a .stores) in
+    c .before .before .before .before .before .before .stepped .ensures
+    ∙ ap (λ (v : Vector). call vectorSize 0 (happening (a .server) w v []) noReply l) (c .before .before .before .before .before .before .before .before .before .before .before .vector-at .ensures)
+    ∙ vector-enough (length (a .asked .now)) 0 (happening (a .server) w (vectorFrom (a .asked .now)) []) noReply l (c .before .before .before .before .before .before .before .before .before .before .before .before .if1 .left)
+
+pub cut-after-spec : {M : Type 1} → statement M
+cut-after-spec =
+    tie.close
+    (tie.spec
+    returns
+    (search needs)
+    (search needs)
+    (search needs)
+    (search needs)
+    (search needs)
+    (search needs)
+    returns-2)

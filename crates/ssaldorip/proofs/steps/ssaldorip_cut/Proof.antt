@@ -1,0 +1,20 @@
+-- `steps::ssaldorip_cut` meets its contract: the cut, with no vector.
+-- Assumes nothing.
+use mathlib.Core.List.{[]}
+use mathlib.Core.Path.{ap, _∙_}
+use Rattle.notes.specs.declared.vector.Vector.{Vector}
+use Rattle.rules.specs.declared.event.What.the-variants as what
+use Rattle.ssaldorip.specs.Calls.{vectorSize, lent, call, happening, noReply}
+use borrow.Author.Needs.{needs}
+use Rattle.ssaldorip.proofs.steps.ssaldorip_cut.Statement.{statement}
+use Rattle.ssaldorip.proofs.steps.ssaldorip_cut.Tie as tie
+
+returns : tie.Need-returns
+returns c =
+    let a = c .before .before .before .before .before .before .before .before .before .before .before .before .before .before .before .args in
+    c .before .before .before .before .before .before .stepped .ensures
+    ∙ ap (λ (v : Vector). call vectorSize 0 (happening (a .server) what.Cut v []) noReply (lent (a .state .now) (a .history .now) (a .image .now) [])) (c .before .before .before .before .before .before .before .before .zero .ensures)
+
+pub ssaldorip-cut-spec : {M : Type 1} → statement M
+ssaldorip-cut-spec =
+    tie.close (tie.spec (search needs) (search needs) (search needs) (search needs) (search needs) (search needs) returns)

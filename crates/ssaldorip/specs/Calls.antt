@@ -1,0 +1,126 @@
+-- The calls of the boundary: numbers and bytes.
+-- Assumes nothing.
+use Prim.Native.Nat.{ℕ, _+_, _*_}
+use mathlib.Core.Bool.{_||_, cond}
+use mathlib.Core.List.{List, [], _∷_, _++_}
+use mathlib.Core.Option.{Option, none, some}
+use lib.Dec.{eqb, ltb}
+use lib.ListN.{length, getD, drop, replicate}
+use Rattle.notes.specs.Reply.{Reply, Filled}
+use Rattle.notes.specs.Bytes.{toBytes}
+use Rattle.notes.specs.Index.{servers}
+use Rattle.notes.specs.Vector.{countSize, maximum, vectorFrom, vectorBytes}
+use Rattle.notes.specs.declared.vector.Vector.{Vector}
+use Rattle.rules.specs.declared.answer.Refusal.{Refusal}
+use Rattle.rules.specs.declared.event.What.{What}
+use Rattle.rules.specs.Answer.{Effect, refusalNumber}
+use Rattle.rules.specs.Memory.{Memory, memory}
+use Rattle.rules.specs.Writes.{server}
+use Rattle.rules.specs.Step.{step}
+use Rattle.rules.specs.Calls.{status, message}
+use Rattle.ssaldorip.specs.Block.{blockSize, stateOf, blockOf}
+
+abbrev pub vectorSize : ℕ
+vectorSize = countSize * servers
+
+abbrev pub readSize : ℕ
+readSize = 5 + vectorSize
+
+-- what is lent to a call, and what it answers and leaves
+pub record Lent : Type 0 where
+  pub state : List ℕ
+  pub history : List ℕ
+  pub image : List ℕ
+  pub reply : List ℕ
+
+pub record Called : Type 0 where
+  pub number : ℕ
+  pub lent : Lent
+
+abbrev pub lent : List ℕ → List ℕ → List ℕ → List ℕ → Lent
+lent b h i out = record { state = b; history = h; image = i; reply = out }
+
+abbrev pub called : ℕ → Lent → Called
+called k l = record { number = k; lent = l }
+
+-- bytes at the start of others, which stay past them
+abbrev pub onto : List ℕ → List ℕ → List ℕ
+onto bytes b = bytes ++ drop (length bytes) b
+
+-- done: the next state in the block, and the reply's bytes
+abbrev pub leaves : Effect → List ℕ → Lent → Lent
+leaves e bytes l = lent (onto (blockOf (e .after .state)) (l .state)) (e .after .history) (e .after .image) (onto bytes (l .reply))
+
+abbrev pub memoryOf : Lent → Memory
+memoryOf l = memory (stateOf (l .state)) (l .history) (l .image)
+
+-- a state or a vector shorter than its size is 9, first; a reply shorter than its size is 9, last; a refusal changes nothing
+unfoldable pub call : (vector size : ℕ) → (Memory → Effect) → (Effect → List ℕ) → Lent → Called
+call vector size f bytes l =
+    let e = f (memoryOf l) in
+    cond (ltb (length (l .state)) blockSize || ltb vector vectorSize) (called 9 l)
+    (cond (eqb (e .reply .number) 0)
+    (cond (ltb (length (l .reply)) size) (called 9 l) (called 0 (leaves e (bytes e) l)))
+    (called (e .reply .number) l))
+
+-- ---- steps
+
+abbrev pub happening : ℕ → What → Vector → List ℕ → Memory → Effect
+happening j w v msg m = step m (record { server = server j; what = w }) v msg
+
+abbrev pub noReply : Effect → List ℕ
+noReply e = []
+
+-- a read's reply: 1 and the value, or five zeros, then V; a write's: V
+abbrev pub readBytes : Reply → Vector → List ℕ
+readBytes r v =
+    cond (eqb (getD (r .values) 0 0) 1) (1 ∷ toBytes 4 (getD (r .values) 1 0)) (replicate 5 0) ++ vectorBytes v
+
+abbrev pub readReply : Effect → List ℕ
+readReply e = readBytes (e .reply) (e .vector)
+
+abbrev pub writtenReply : Effect → List ℕ
+writtenReply e = vectorBytes (e .vector)
+
+-- what is told where a reply has no room
+abbrev pub orShort : Effect → ℕ
+orShort e = cond (eqb (e .reply .number) 0) 9 (e .reply .number)
+
+-- ---- the others
+
+-- the number that a call answers, and what it leaves in the bytes lent to it
+abbrev pub left : ℕ → List ℕ → ℕ × List ℕ
+left k b = (k, b)
+
+abbrev pub answered : Filled → ℕ × List ℕ
+answered f = left (f .reply .number) (f .output)
+
+-- bytes at the start of an output: 9 where it has no room for them
+abbrev pub put : List ℕ → List ℕ → ℕ × List ℕ
+put bytes out = cond (ltb (length out) (length bytes)) (left 9 out) (left 0 (onto bytes out))
+
+-- how many, and the lowest or 255; a refusal is told first
+unfoldable pub statusIn : Memory → List ℕ → ℕ × List ℕ
+statusIn m out =
+    let r = status m in
+    cond (eqb (r .number) 0) (put (getD (r .values) 0 0 ∷ getD (r .values) 1 255 ∷ []) out) (left (r .number) out)
+
+-- the server's own message
+abbrev pub messageIn : Memory → List ℕ → ℕ × List ℕ
+messageIn m out = answered (message m out)
+
+-- a call that changes an output only: 9 for a short state, first
+unfoldable pub fills : (Memory → List ℕ → ℕ × List ℕ) → Lent → ℕ × List ℕ
+fills f l = cond (ltb (length (l .state)) blockSize) (left 9 (l .reply)) (f (memoryOf l) (l .reply))
+
+-- 0 where the write is not there, the refusal's number, or the place of its record in the image
+unfoldable pub placeOrNumber : Option Refusal → Option ℕ → ℕ
+placeOrNumber (some r) p = refusalNumber r
+placeOrNumber none none = 0
+placeOrNumber none (some p) = p
+
+-- the maximum of two vectors in the first one's bytes
+unfoldable pub raise : List ℕ → List ℕ → ℕ × List ℕ
+raise s v =
+    cond (ltb (length s) vectorSize || ltb (length v) vectorSize) (left 9 s)
+    (left 0 (onto (vectorBytes (maximum (vectorFrom s) (vectorFrom v))) s))

@@ -1,0 +1,88 @@
+// The calls that need no state: a look-up in an image, update messages, and the phone's session.
+ghost use mathlib.Core.Path.{_≡_};
+ghost use Rattle.notes.specs.Message.{refusalNumber, check as checkOf, write as writeOf};
+ghost use Rattle.rules.specs.Writes.{server};
+ghost use Rattle.rules.specs.Calls.{standsAt, lookUpRefusal};
+ghost use Rattle.ssaldorip.specs.Calls.{left, answered, placeOrNumber, raise};
+use notes::index::ServerId;
+use notes::message;
+use notes::message::Checked;
+use notes::message::Refusal;
+use notes::message::Written;
+use notes::raw;
+use notes::vector::Vector;
+use sound::look_up;
+use sound::look_up::Found;
+use sound::refusal;
+
+// The bytes of a vector.
+const VECTOR_LEN: usize = Vector::COUNT_LEN * Vector::LEN;
+
+fn wide(x: u8) -> u32
+    ensures { λ r. ⌜ r ≡ x ⌝ }
+{
+    x as u32
+}
+
+// Where in the image the write's record stands; 0 where it is not there, or the refusal's number, which no place is.
+#[no_mangle]
+pub extern "C" fn ssaldorip_look_up(image: &[u8], origin: u8, number: u32) -> u32
+    ensures { λ r. ⌜ r ≡ placeOrNumber (lookUpRefusal (now (image .entry)) (server origin)) (standsAt (now (image .entry)) (server origin) number) ⌝ }
+{
+    let found = look_up::stands_at(image, ServerId(origin), number);
+    match found {
+        Found::At(place) => place as u32,
+        Found::NotThere => 0,
+        Found::Refused(k) => wide(refusal::number(k)),
+    }
+}
+
+fn number(k: Refusal) -> u32
+    ensures { λ r. ⌜ r ≡ refusalNumber k ⌝ }
+{
+    match k {
+        Refusal::OutOfRange => 1,
+        Refusal::Malformed => 6,
+        Refusal::TooShort => 9,
+    }
+}
+
+// 0 for a message that is well formed, and 6 otherwise.
+#[no_mangle]
+pub extern "C" fn ssaldorip_message_check(message: &[u8]) -> u32
+    ensures { λ r. ⌜ r ≡ checkOf (now (message .entry)) .number ⌝ }
+{
+    let checked = message::check(message);
+    match checked {
+        Checked::Update(_) => 0,
+        Checked::Refused(k) => number(k),
+    }
+}
+
+// The message of these records at the start of out: 1 for N or sender, then 6, then 9 for out.
+#[no_mangle]
+pub extern "C" fn ssaldorip_message_write(n: u8, sender: u8, records: &[u8], out: &mut [u8]) -> u32
+    ensures { λ r. ⌜ left r (now (out .exit)) ≡ answered (writeOf n (server sender) (now (records .entry)) (now (out .entry))) ⌝ }
+{
+    let written = message::write(n, ServerId(sender), records, out);
+    match written {
+        Written::Bytes(_) => 0,
+        Written::Refused(k) => number(k),
+    }
+}
+
+// The session's vector raised by a read's reply, in place: 9 where one of the two is too short.
+#[no_mangle]
+pub extern "C" fn ssaldorip_session_raise(session: &mut [u8], reply: &[u8]) -> u32
+    ensures { λ r. ⌜ left r (now (session .exit)) ≡ raise (now (session .entry)) (now (reply .entry)) ⌝ }
+{
+    if session.len() < VECTOR_LEN {
+        return 9;
+    }
+    if reply.len() < VECTOR_LEN {
+        return 9;
+    }
+    let reads = raw::vector_at(session, 0);
+    raw::put_vector(session, 0, reads.maximum(raw::vector_at(reply, 0)));
+    0
+}

@@ -1,0 +1,180 @@
+#!/usr/bin/env python3
+"""Tries the lockstep test on wrong libraries: the model with one line changed, behind the
+C interface (fake/lib.rs). Each must be found. Run from this folder: ./mutants.py [names]"""
+import os, re, subprocess, sys, shutil
+
+W = 'target/mutants'
+os.makedirs(W, exist_ok=True)
+MODEL = open('src/model.rs').read().split('#[cfg(test)]\nmod tests')[0]
+FAKE = open('fake/lib.rs').read()
+
+# (name, text, text instead[, 'fake' if the text is of fake/lib.rs])
+M = [
+ ('phone 64', '(self.phone as usize) < PHONES\n', '(self.phone as usize) <= PHONES\n'),
+ ('cell 1024 in record', '&& self.cell < CELLS', '&& self.cell <= CELLS'),
+ ('number 0', 'number >= 1)', 'number < 999)'),
+ ('position 257', 'all(|&p| p <= 256)', 'all(|&p| p <= 257)'),
+ ('positions past N free', 'self.t[n as usize..].iter().all(|&p| p == 0)', 'true'),
+ # ('origin N' is no mutant: an origin of N has the number T[N], which must be zero)
+ ('winner by lower origin', '.sum(), self.origin, self.number())', '.sum(), 255 - self.origin, self.number())'),
+ ('winner by number before origin', '(u32, u8, Option<u16>) {\n        (self.t.iter().map(|&p| p as u32).sum(), self.origin, self.number())', '(u32, Option<u16>, u8) {\n        (self.t.iter().map(|&p| p as u32).sum(), self.number(), self.origin)'),
+ ('winner by lower number', '.sum(), self.origin, self.number())', '.sum(), self.origin, self.number().map(|n| 999 - n))'),
+ ('winner by phone time', '(u32, u8, Option<u16>) {\n        (self.t.iter().map(|&p| p as u32).sum(), self.origin, self.number())', '(u32, u32, u8, Option<u16>) {\n        (self.t.iter().map(|&p| p as u32).sum(), self.time, self.origin, self.number())'),
+ ('winner by sum of 11 bits', 'p as u32).sum(), self', 'p as u32).sum::<u32>() & 0x7ff, self'),
+ ('winner is the last', 'history.iter().filter(|r| r.cell == cell).max_by_key(|r| r.rank())', 'history.iter().filter(|r| r.cell == cell).last()'),
+ ('message of 257', '&& count <= HISTORY_WRITES\n', '\n'),
+ ('message offset free', '&& u16_at(bytes, 4) as usize == MESSAGE_HEADER\n', '\n'),
+ ('message total free', '&& u16_at(bytes, 6) as usize == bytes.len()\n', '\n'),
+ ('message total in 16 bits', 'u16_at(bytes, 6) as usize == bytes.len()\n            && bytes.len() == MESSAGE_HEADER + count * Record::LENGTH', 'u16_at(bytes, 6) as usize == bytes.len() % 65536\n            && bytes.len() % 65536 == MESSAGE_HEADER + count * Record::LENGTH'),
+ ('message sender free', 'let well_formed_header = valid_servers(n, sender)', 'let well_formed_header = valid_servers(n, 0)'),
+ ('message records unjudged', 'records.iter().all(|r| r.well_formed(n)).then_some', 'records.iter().all(|r| r.origin < n).then_some'),
+ ('spare up byte', '1 => faults_up(&state, &records(history, 0, state.held as usize), image),\n        _ => vec![Fault::UpByte],', '_ => faults_up(&state, &records(history, 0, state.held as usize), image),'),
+ ('held 257', '1 if state.held as usize > HISTORY_WRITES => vec![Fault::Held]', '1 if state.held as usize > HISTORY_WRITES => vec![]'),
+ ('down numbers free', 'faults.push(Fault::DownNumbers);', ''),
+ ('down over 256', 'faults.push(Fault::Held);\n        return faults;', 'return faults;'),
+ ('down judged by header only', 'for fault in faults_up(&recovered, &history, image) {', 'for fault in faults_up(&recovered, &history, image).into_iter().take(0) {'),
+ ('recovery replays every log record', 'if number.is_none_or(|number| number > v[own as usize]) {', 'if true {'),
+ ('recovery compares with the checkpoint only, >=', 'number > v[own as usize]) {', 'number >= v[own as usize]) {'),
+ ('nWrites zero after recovery', 'let writes = v[own as usize] - own_in_checkpoint;', 'let writes = 0; let _ = own_in_checkpoint;'),
+ ('recovery raises V by T', 'v[own as usize] = number.unwrap_or(v[own as usize]);', 'for i in 0..8 { v[i] = v[i].max(record.t[i]); }'),
+ ('recovery leaves the rest', "after.history[..HISTORY].fill(0);\n        for (place", "for (place"),
+ ('recovery zeroes past the size', "after.history[..HISTORY].fill(0);\n        for (place", "after.history.fill(0);\n        for (place"),
+ ('recovery clears the log', 'let (state, history) = recovered(state.n, state.own, &memory.image);\n        let mut after = memory.clone();', 'let (state, history) = recovered(state.n, state.own, &memory.image);\n        let mut after = memory.clone(); if state.writes == 0 { after.image[6] = 0; }'),
+ ('recovery restores nothing', 'let (state, history) = recovered(state.n, state.own, &memory.image);\n        let mut after', 'let (state, history) = (State::fresh(state.n, state.own), Vec::<Record>::new());\n        let mut after'),
+ ('state not 9', 'refuse_if(memory.state.len() < STATE || asked.len() < VECTOR, SHORT)?;', 'refuse_if(memory.state.len() < STATE || asked.len() < VECTOR, UNSOUND)?;'),
+ ('history 9 only with image', 'self.history.len() < HISTORY || self.image.len() < IMAGE, SHORT', 'self.history.len() < HISTORY && self.image.len() < IMAGE || self.image.len() < IMAGE || self.history.len() < HISTORY && self.state[2] == 1, SHORT'),
+ ('6 after 2', 'let state = self.judged()?;\n        refuse_if(state.up == 0, DOWN)?;', 'refuse_if(self.state.len() >= STATE && self.history.len() >= HISTORY && self.image.len() >= IMAGE && self.state[2] == 0, DOWN)?;\n        let state = self.judged()?;'),
+ ('log count before its bytes', 'stores.push(Store::Count { at: LOG_COUNT_AT, count: logged + 1 });', 'stores.insert(0, Store::Count { at: LOG_COUNT_AT, count: logged + 1 });'),
+ ('log cleared before the checkpoint count', 'stores.push(Store::Count { at: CHECKPOINT_COUNT_AT, count: state.held });\n            stores.push(Store::Count { at: LOG_COUNT_AT, count: 0 });', 'stores.push(Store::Count { at: LOG_COUNT_AT, count: 0 });\n            stores.push(Store::Count { at: CHECKPOINT_COUNT_AT, count: state.held });'),
+ ('checkpoint stores the whole history', '.enumerate().skip(done)', '.enumerate().skip(done * 0)'),
+ ('log not cleared', 'stores.push(Store::Count { at: LOG_COUNT_AT, count: 0 });', ''),
+ ('only the first write is logged', 'stores.push(Store::Count { at: LOG_COUNT_AT, count: logged + 1 });', 'if logged == 0 { stores.push(Store::Count { at: LOG_COUNT_AT, count: logged + 1 }); }'),
+ ('second read keeps the phone', 'next.cr = 0;', 'next.cr = 1 << phone;'),
+ ('first read leaves RW', 'next.rw[phone as usize] = state.writes;', ''),
+ ('CR in 32 bits', 'next.cr |= 1 << phone;', 'next.cr |= 1 << (phone % 32);'),
+ ('in CR by the low 5 bits', 'self.cr >> phone & 1 == 1', 'self.cr >> (phone % 32) & 1 == 1'),
+ ('log place by V', 'LOG_AT + logged as usize * Record::LENGTH', 'LOG_AT + (state.v[state.own as usize] as usize % 64) * Record::LENGTH'),
+ ('value cut to 16 bits', 'winner.map_or(0, |r| r.value)', 'winner.map_or(0, |r| r.value & 0xffff)'),
+ ('second read sets RW', '} else if state.rw[phone as usize] > 0 {', '} else if { next.rw[phone as usize] = state.writes; state.rw[phone as usize] > 0 } {'),
+ ('checkpoint on any second read with nWrites', '} else if state.rw[phone as usize] > 0 {', '} else if state.writes > 0 {'),
+ ('nWrites kept at a checkpoint', 'next.rw = [0; PHONES];\n            next.writes = 0;', 'next.rw = [0; PHONES];'),
+ ('reads reply no note', 'let mut reply = vec![winner.is_some() as u8];', 'let winner = winner.filter(|_| false); let mut reply = vec![winner.is_some() as u8];'),
+ ('no note is 1 and zero', 'let mut reply = vec![winner.is_some() as u8];', 'let mut reply = vec![1u8];'),
+ ('made-up vector', 'reply.extend(vector_bytes(&state.v));', 'reply.extend(vector_bytes(&state.v.map(|p| p.saturating_sub(1))));'),
+ ('cut after one fewer', 'refuse_if(k as usize > self.stores.len(), RANGE)?;', 'refuse_if(k as usize >= self.stores.len().max(1), RANGE)?;'),
+ ('cut count in 16 bits', 'refuse_if(k as usize > self.stores.len(), RANGE)?;', 'let k = k & 0xffff; refuse_if(k as usize > self.stores.len(), RANGE)?;'),
+ ('cut stores one less', 'for store in &self.stores[..k as usize] {', 'for store in &self.stores[..(k as usize).saturating_sub(1)] {'),
+ ('cut appends', 'after.put_state(&State::down(self.state.n, self.state.own));', 'if let (29, Some(r)) = (k, &self.appended) { after.put_history(self.state.held as usize - 1, r); } after.put_state(&State::down(self.state.n, self.state.own));'),
+ ('server below N is enough', 'refuse_if(server != state.own, RANGE)?;\n    refuse_if(phone', 'refuse_if(server >= state.n, RANGE)?;\n    refuse_if(phone'),
+ ('phone 64 in a request', 'phone as usize >= PHONES ||', 'phone as usize > PHONES ||'),
+ ('cell 1024 in a request', 'cell >= CELLS || past_n', 'cell > CELLS || past_n'),
+ ('vector past N free', 'cell >= CELLS || past_n, RANGE)?;\n    refuse_if((0..SERVERS)', 'cell >= CELLS, RANGE)?;\n    let _ = past_n;\n    refuse_if((0..state.n as usize)'),
+ ('vector past N is 3', 'cell >= CELLS || past_n, RANGE)', 'cell >= CELLS || past_n && false, RANGE)'),
+ ('3 before 1', 'refuse_if(server != state.own, RANGE)?;\n    refuse_if(phone', 'refuse_if((0..state.n as usize).any(|i| state.v[i] < asked[i]), NOT_YET)?;\n    refuse_if(server != state.own, RANGE)?;\n    refuse_if(phone'),
+ ('writes are not tested for 3', 'let state = judged_request(memory, server, write.phone, write.cell, asked)?;', 'refuse_if(asked.len() < VECTOR, SHORT)?; let mut low = asked.to_vec(); for b in low.iter_mut().take(2 * memory.state.get(0).map_or(0, |&n| n.min(8) as usize)) { *b = 0; } let state = judged_request(memory, server, write.phone, write.cell, &low)?;'),
+ ('all reads refused', 'Ok(state)\n}\n\n/// The same for a write', 'refuse_if(asked.iter().any(|&b| b != 0), NOT_YET)?; Ok(state)\n}\n\n/// The same for a write'),
+ ('5 before 4', 'refuse_if(state.held as usize == HISTORY_WRITES, FULL)?;\n    refuse_if(Header::parse(&memory.image).log_count as usize == LOG_WRITES, LOG_FULL)?;', 'refuse_if(Header::parse(&memory.image).log_count as usize == LOG_WRITES, LOG_FULL)?;\n    refuse_if(state.held as usize == HISTORY_WRITES, FULL)?;'),
+ ('4 at 255', 'state.held as usize == HISTORY_WRITES', 'state.held as usize >= HISTORY_WRITES - 1'),
+ ('5 at 63', 'log_count as usize == LOG_WRITES', 'log_count as usize >= LOG_WRITES - 1'),
+ ('output 9 before 4 and 5', 'let state = judged_write(&memory, server, write, asked)?;\n        let step = Step::write(&memory, &state, write);\n        let reply', 'judged_request(&memory, server, phone, cell, asked)?; refuse_if(reply.len() < 16, SHORT)?; let state = judged_write(&memory, server, write, asked)?;\n        let step = Step::write(&memory, &state, write);\n        let reply'),
+ ('read output one short', 'refuse_if(output.len() < reply.len(), SHORT)?;', 'refuse_if(output.len() < reply.len() || reply.len() == 21 && output.len() == 21, SHORT)?;'),
+ ('output zeroed past the reply', 'Ok([reply, &output[reply.len()..]].concat())', 'Ok([reply, &vec![0; output.len() - reply.len()]].concat())'),
+ ('refused read enters CR', 'or_unchanged(served(), (memory.clone(), reply.to_vec()))\n}\n\n#[allow(clippy::too_many_arguments)]\npub fn read_cut', 'let mut m = memory.clone(); if let Err(3) = served() { m.state[24 + phone as usize / 8] |= 1 << (phone % 8); }\n    or_unchanged(served(), (m, reply.to_vec()))\n}\n\n#[allow(clippy::too_many_arguments)]\npub fn read_cut'),
+ ('start leaves old image bytes', 'after.image[..IMAGE].fill(0);', 'after.image[..LOG_AT].fill(0);'),
+ ('start zeroes past the size', 'after.image[..IMAGE].fill(0);', 'after.image.fill(0);'),
+ ('start 1 before 9', 'refuse_if(state.len() < STATE || history.len() < HISTORY || image.len() < IMAGE, SHORT)?;\n        refuse_if(!valid_servers(n, own), RANGE)?;', 'refuse_if(!valid_servers(n, own), RANGE)?;\n        refuse_if(state.len() < STATE || history.len() < HISTORY || image.len() < IMAGE, SHORT)?;'),
+ ('update raises V by all of T', 'state.v[origin] = number;\n            new.push(record);', 'for i in 0..8 { state.v[i] = state.v[i].max(record.t[i]); }\n            new.push(record);'),
+ ('update takes nothing', 'state.v[origin] = number;\n            new.push(record);', ''),
+ ('own ahead is 7', 'refuse_if(record.origin == state.own, OWN_AHEAD)?;', 'refuse_if(record.origin == state.own, GAP)?;'),
+ ('own next is taken', 'refuse_if(record.origin == state.own, OWN_AHEAD)?;', 'refuse_if(record.origin == state.own && number > state.v[origin] + 1, OWN_AHEAD)?;'),
+ ('a gap is taken', 'refuse_if(number > state.v[origin] + 1, GAP)?;', 'refuse_if(number > state.v[origin] + 2, GAP)?;'),
+ ('a gap is skipped', 'refuse_if(number > state.v[origin] + 1, GAP)?;', 'if number > state.v[origin] + 1 { continue; }'),
+ ('4 before 7 and 8', 'new.push(record);', 'new.push(record); refuse_if(state.held as usize + new.len() > HISTORY_WRITES, FULL)?;'),
+ ('7 before 8', 'let mut new = Vec::new();\n', 'let mut new = Vec::new(); { let mut v = state.v; for r in &message.records { let o = r.origin as usize; if r.origin != state.own && r.t[o] > v[o] + 1 { return Err(GAP); } if r.origin != state.own && r.t[o] > v[o] { v[o] = r.t[o]; } } }\n'),
+ ('4 at the 256th', 'refuse_if(state.held as usize + new.len() > HISTORY_WRITES, FULL)?;\n        let mut after', 'refuse_if(state.held as usize + new.len() >= HISTORY_WRITES && !new.is_empty(), FULL)?;\n        let mut after'),
+ ('4 by message count', 'refuse_if(message.n != state.n || message.sender == state.own, UNSOUND)?;', 'refuse_if(message.n != state.n || message.sender == state.own, UNSOUND)?; let count = message.records.len();', ),
+ ('message N free with none', 'refuse_if(message.n != state.n || message.sender == state.own, UNSOUND)?;', 'refuse_if(message.n != state.n && !message.records.is_empty() || message.sender == state.own, UNSOUND)?;'),
+ ('message from receiver is taken', 'refuse_if(message.n != state.n || message.sender == state.own, UNSOUND)?;', 'refuse_if(message.n != state.n, UNSOUND)?;'),
+ ('message before server', 'refuse_if(server != state.own, RANGE)?;\n        let message = Message::parse(message).ok_or(UNSOUND)?;', 'let message = Message::parse(message).ok_or(UNSOUND)?;\n        refuse_if(server != state.own, RANGE)?;'),
+ ('update stores', 'for record in &new {\n            after.put_history', 'for record in &new {\n            after.image[8975] ^= 1;\n            after.put_history'),
+ ('status of none is 64', 'unwrap_or(255)', 'unwrap_or(64)'),
+ ('status of the highest', 'phones.first()', 'phones.last()'),
+ ('look-up in the log first', 'place(CHECKPOINT_AT, checkpoint(image)).or_else(|| place(LOG_AT, log(image)))', 'place(LOG_AT, log(image)).or_else(|| place(CHECKPOINT_AT, checkpoint(image)))'),
+ ('look-up number in 16 bits', 'r.number().map(u32::from) == Some(number)', 'r.number() == Some(number as u16)'),
+ ('look-up refuses number 0', 'let sought = |r: &Record|', 'if number == 0 { return RANGE; }\n    let sought = |r: &Record|'),
+ ('look-up of header only', 'if !faults_of_image(image).is_empty() {', 'if faults_of_image(image).iter().any(|f| *f < Fault::Numbering) {'),
+ ('look-up past the count', 'place(LOG_AT, log(image))', 'place(LOG_AT, records(image, LOG_AT, 64))'),
+ ('look-up in the log past the checkpoint only', 'place(LOG_AT, log(image))', 'place(LOG_AT, log(image).into_iter().filter(|r| r.number().unwrap() as usize > checkpoint(image).iter().filter(|c| c.origin == image[1]).count()).collect())'),
+ ('look-up 1 before 6', 'if !faults_of_image(image).is_empty() {', 'if (1..=8).contains(&image[0]) && origin >= image[0] { return RANGE; }\n    if !faults_of_image(image).is_empty() {'),
+ ('message write of 257', '!records.len().is_multiple_of(Record::LENGTH) || count > HISTORY_WRITES, UNSOUND)', '!records.len().is_multiple_of(Record::LENGTH) || count > 65535, UNSOUND)'),
+ ('message write count in 16 bits', 'let count = records.len() / Record::LENGTH;\n        refuse_if(!records.len().is_multiple_of(Record::LENGTH) || count', 'let count = records.len() / Record::LENGTH & 0xffff;\n        refuse_if(!records.len().is_multiple_of(Record::LENGTH) || count'),
+ ('message write floor', '!records.len().is_multiple_of(Record::LENGTH) || count > HISTORY_WRITES, UNSOUND', 'count > HISTORY_WRITES, UNSOUND'),
+ ('message write 9 before 6', 'refuse_if(!valid_servers(n, sender), RANGE)?;\n        let count', 'refuse_if(!valid_servers(n, sender), RANGE)?; refuse_if(out.len() < 8 + records.len() / 28 * 28, SHORT)?;\n        let count'),
+ ('session takes the last', 'r[i].max(v[i])', '{ let _ = r; v[i] }'),
+ ('session minimum of 256', 'r[i].max(v[i])', 'r[i].max(v[i]).min(256)'),
+ ('session not raised at the last position', 'r[i].max(v[i])', 'if i == 7 { r[i] } else { r[i].max(v[i]) }'),
+ ('cut leaves CR', 'after.put_state(&State::down(state.n, state.own));\n        Ok(after)', 'after.put_state(&State { cr: state.cr & 1, ..State::down(state.n, state.own) });\n        Ok(after)'),
+ ('writes past the reply buffer', 'from_raw_parts_mut(at, length).copy_from_slice(bytes)', 'from_raw_parts_mut(at, length).copy_from_slice(bytes); *at.add(length) ^= 1', 'fake'),
+ ('writes before a buffer', 'from_raw_parts_mut(at, length).copy_from_slice(bytes)', 'from_raw_parts_mut(at, length).copy_from_slice(bytes); *at.sub(1) ^= 1', 'fake'),
+ ('changes a const buffer', 'model::look_up(slice(i, il), origin, number)', 'let n = model::look_up(slice(i, il), origin, number); if n > 16 { *(i as *mut u8).add(n as usize) ^= 1; } n', 'fake'),
+]
+M[[m[0] for m in M].index('4 by message count')] = ('4 by message count',
+  'let mut new = Vec::new();\n        for record in message.records {', 'let mut new = Vec::new(); let all = message.records.len(); let h0 = state.held as usize;\n        for record in message.records {')
+# needs a second change: the count is used after the walk
+SECOND = {'4 by message count': ('refuse_if(state.held as usize + new.len() > HISTORY_WRITES, FULL)?;\n        let mut after', 'refuse_if(h0 + all > HISTORY_WRITES && !new.is_empty(), FULL)?;\n        let mut after')}
+# each sentence of soundness left out
+for m in re.finditer(r'    note\((.+), Fault::(\w+)\);\n', MODEL):
+    M.append(('sound without ' + m.group(2), m.group(0), '    let _ = %s;\n' % m.group(1)))
+
+# wrong steps with a state that is never judged: the checks of the demands alone must find them
+UNJUDGED = ('    let state = State::parse(state);\n    match state.up {', '    return Vec::new();\n    #[allow(unreachable_code)]\n    let state = State::parse(state);\n    match state.up {')
+DEMANDS = ['update raises V by all of T', 'recovery restores nothing', 'only the first write is logged', 'made-up vector',
+           'log count before its bytes', 'log cleared before the checkpoint count', 'recovery raises V by T',
+           'recovery replays every log record', 'session not raised at the last position', 'a gap is taken', 'recovery leaves the rest']
+for name in DEMANDS:
+    i = [m[0] for m in M].index(name)
+    M.append(('unjudged: ' + name,) + M[i][1:])
+    SECOND['unjudged: ' + name] = UNJUDGED
+
+def sh(*a, **k): return subprocess.run(a, capture_output=True, text=True, **k)
+
+env = dict(os.environ, SSALDORIP_LINKED='mutant')
+r = sh('rustc', '--edition', '2021', '-O', '--crate-type', 'rlib', '--crate-name', 'ssaldorip_tests', 'src/lib.rs',
+       '--cfg', 'ssaldorip_real', '-A', 'unexpected_cfgs', '-o', W + '/libssaldorip_tests.rlib', env=env)
+assert r.returncode == 0, r.stderr
+
+def build(name, model, fake):
+    open(W + '/model.rs', 'w').write(model); open(W + '/lib.rs', 'w').write(fake)
+    r = sh('rustc', '--edition', '2021', '-C', 'opt-level=1', '-C', 'panic=abort', '--crate-type', 'staticlib', '--crate-name',
+           'ssaldorip', '--cap-lints', 'allow', W + '/lib.rs', '-o', W + '/libssaldorip.a')
+    assert r.returncode == 0, name + '\n' + r.stderr
+    r = sh('rustc', '--edition', '2021', '-O', 'src/bin/lockstep.rs', '--extern', 'ssaldorip_tests=' + W + '/libssaldorip_tests.rlib',
+           '-L', 'native=' + W, '-l', 'static=ssaldorip', '-o', W + '/lockstep')
+    assert r.returncode == 0, name + '\n' + r.stderr
+
+def run(*args):
+    r = sh(W + '/lockstep', *args)
+    return r.returncode, r.stdout.strip().split('\n')
+
+for name, old, new, *where in M:
+    assert (FAKE if where else MODEL).count(old) == 1, (name, (FAKE if where else MODEL).count(old))
+    assert name not in SECOND or MODEL.count(SECOND[name][0]) == 1, name
+only = sys.argv[1:]
+missed, tried = [], 0
+for name, old, new, *where in M:
+    if only and name not in only: continue
+    tried += 1
+    text = FAKE if where else MODEL
+    assert text.count(old) == 1, (name, text.count(old))
+    text = text.replace(old, new)
+    if name in SECOND:
+        o, n = SECOND[name]; assert text.count(o) == 1; text = text.replace(o, n)
+    build(name, MODEL if where else text, text if where else FAKE)
+    code, out = run('--steps', '40000', '--hostile', '100000')
+    if code == 0: missed.append(name)
+    where_found = next((l for l in out if l.startswith('seed ') and ('cluster' in l or 'hostile case' in l)), out[-1])
+    c1, _ = run('--steps', '0', '--hostile', '100000')
+    c2, o2 = run('--steps', '40000', '--hostile', '0', '--no-model')
+    print(('found ' if code else 'MISSED'), '|', name, '|', where_found, '| hostile alone:', bool(c1), '| demands alone:',
+          (o2[-2] if len(o2) > 1 else 'crash')[:90] if c2 else 'no', flush=True)
+print(tried - len(missed), 'found,', len(missed), 'missed:', missed)

@@ -1,0 +1,57 @@
+//! The proved sync server of an offline field notebook, for Rust.
+//!
+//! Growers write notes where there is no signal. A phone hands them to the first of up to eight servers that it can reach;
+//! the servers work while they cannot see each other, and come together later by update messages. What a phone has read
+//! stays read: a server that lacks it answers "not yet". A write that was answered is not lost by a cut.
+//!
+//! This package is a thin, safe cover over `libssaldorip.a`, whose code is proved to follow its rules on every input. The
+//! cover only turns bytes into types: every decision is the library's.
+//!
+//! - [`Server`]: the steps of a server (read, write, update, cut, recovery) and its reports.
+//! - [`Session`]: what a phone has read, raised by each read's reply.
+//! - [`Message`] and [`Record`]: update messages, also without a server.
+//! - [`Refusal`]: why a call was refused. A refused call changes nothing.
+//!
+//! A write at one server, an update to another, a read there:
+//!
+//! ```
+//! use ssaldorip::{Cell, PhoneId, Refusal, Server, ServerId, Session, Write};
+//!
+//! # fn main() -> Result<(), Refusal> {
+//! let mut barn = Server::start(2, ServerId(0))?;
+//! let mut house = Server::start(2, ServerId(1))?;
+//! let (phone, cell) = (PhoneId(5), Cell(300));
+//! let mut session = Session::new();
+//!
+//! // The phone writes at the barn and reads its note there: the reply raises the session.
+//! barn.write(phone, Write { cell, value: 7, time: 900 }, session.for_write())?;
+//! let reply = barn.read(phone, cell, session.for_read())?;
+//! session.raise(&reply);
+//! assert_eq!(reply.value, Some(7));
+//!
+//! // The house has not seen the note, and does not pretend: not yet.
+//! assert_eq!(house.read(phone, cell, session.for_read()), Err(Refusal::NotYet));
+//!
+//! // The barn's update brings it.
+//! house.update(&barn.message()?)?;
+//! assert_eq!(house.read(phone, cell, session.for_read())?.value, Some(7));
+//! # Ok(())
+//! # }
+//! ```
+
+#![deny(missing_docs)]
+#![deny(unsafe_code)]
+
+#[allow(unsafe_code)]
+mod ffi;
+mod message;
+mod refusal;
+mod server;
+mod session;
+mod vector;
+
+pub use message::{Message, Record, Records};
+pub use refusal::{NoRefusal, Refusal};
+pub use server::{look_up, Server, Status, Write, HISTORY_LEN, IMAGE_LEN, STATE_LEN, WRITE_STORES};
+pub use session::{Read, Session};
+pub use vector::{Cell, PhoneId, ServerId, Vector};
