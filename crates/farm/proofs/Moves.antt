@@ -35,7 +35,7 @@ use Rattle.farm.proofs.Held.{Sane, keeps, Kept}
 use Rattle.farm.proofs.Known.{Genuine, flight-grows, performed-grows}
 use Rattle.farm.proofs.Taken.{taken-held, mine-stays}
 use Rattle.farm.proofs.Inv.{lists-run, numbered, Inv, Onward, still, next, grows, seats-next, deeds-next}
-use Rattle.rules.proofs.Cases.{refusal-number, unsound-refused, refused-same}
+use Rattle.rules.proofs.Outcomes.{refusal-number, unsound-refused, refused-same}
 use Rattle.farm.proofs.Steps.{step-sane, kept-same, kept-more, kept-cut, kept-update, kept-recover, kept-vector, servers-few}
 
 -- ---- a call that is done was not refused

@@ -37,7 +37,7 @@ use Rattle.farm.specs.Act.{askable, stepAt, beginning, recordOf, serving
 use Rattle.farm.proofs.Prefix.{Pre, mem-each, each-mem, changed-same, changed-other}
 use Rattle.farm.proofs.Held.{Sane, keeps, Kept, Held}
 use Rattle.farm.proofs.Known.{Grows, Fair, Knows, Asks, flight-grows, performed-grows, asks-began}
-use Rattle.rules.proofs.Cases.{refused-same}
+use Rattle.rules.proofs.Outcomes.{refused-same}
 use Rattle.farm.proofs.Steps.{keeps-up, kept-same, kept-more, kept-read, kept-write, kept-cut-read, kept-cut-write, kept-vector, servers-few}
 use Rattle.farm.proofs.Inv.{numbered, Seats, Inv, Onward, mine, grows, seats-next, deeds-next}
 use Rattle.farm.proofs.Moves.{done-none, changed-id, step-or-not, below-none, at-server, before-sane, after-sane, only-own}

@@ -50,7 +50,7 @@ use Rattle.rules.proofs.Reading.{noted-is, cp, OnTheWay, before, between, after
 use Rattle.rules.proofs.Writing as writing
 use Rattle.rules.proofs.Keeps.{appended-new, recoveredIn, recovered-fit, recovered-writes, step-sound}
 use Rattle.rules.proofs.Stays.{step-bytes}
-use Rattle.rules.proofs.Cases.{step-cases}
+use Rattle.rules.proofs.Outcomes.{step-cases}
 use Rattle.farm.proofs.Prefix.{Pre, pre-refl, pre-take, pre-keep}
 use Rattle.farm.proofs.Held.{Sane, keeps, Kept}
 

@@ -34,7 +34,7 @@ use Rattle.rules.proofs.Octets.{below-cons, below-append, below-toBytes, below-
 use Rattle.rules.proofs.Stores.{shows-server}
 use Rattle.rules.proofs.Open.{Up, opened}
 use Rattle.rules.proofs.Passed.{head-known, head-right}
-use Rattle.rules.proofs.Cases.{refusal-number}
+use Rattle.rules.proofs.Outcomes.{refusal-number}
 use Rattle.farm.proofs.Held.{Sane}
 
 -- the bytes of a message of records whose numbers fit

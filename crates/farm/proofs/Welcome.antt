@@ -39,7 +39,7 @@ use Rattle.farm.specs.Demand.{Reached, Recovery, Welcome}
 use Rattle.farm.proofs.Prefix.{each-mem}
 use Rattle.farm.proofs.Held.{Sane, keeps}
 use Rattle.farm.proofs.Known.{Genuine}
-use Rattle.rules.proofs.Cases.{served-number}
+use Rattle.rules.proofs.Outcomes.{served-number}
 use Rattle.farm.proofs.Steps.{kept-vector}
 use Rattle.farm.proofs.Taken.{none-refused}
 use Rattle.farm.proofs.Inv.{numbered, lists-run, Inv}

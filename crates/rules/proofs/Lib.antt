@@ -19,6 +19,6 @@ pub mod Reading
 pub mod Writing
 pub mod Keeps
 pub mod Stays
-pub mod Cases
+pub mod Outcomes
 pub mod Unique
 pub mod One

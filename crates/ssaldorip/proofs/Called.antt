@@ -15,7 +15,7 @@ use Rattle.rules.specs.Answer.{Effect, finished}
 use Rattle.rules.specs.Calls.{fresh, noServer, startRefusal, start}
 use Rattle.rules.specs.Memory.{Memory}
 use Rattle.rules.specs.Writes.{server}
-use Rattle.rules.proofs.Cases.{refused-same}
+use Rattle.rules.proofs.Outcomes.{refused-same}
 use Rattle.rules.proofs.Passed.{unless-either}
 use Rattle.ssaldorip.specs.Block.{blockSize, blockOf}
 use Rattle.ssaldorip.specs.Calls.{vectorSize, Lent, Called, lent, called, onto, leaves, memoryOf, call, happening, noReply}

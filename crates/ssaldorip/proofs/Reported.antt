@@ -11,7 +11,7 @@ use Rattle.rules.specs.declared.answer.Status.the-variants.{Nobody, Phones, Ref
 use Rattle.rules.specs.Answer.{refusalNumber, statusReply}
 use Rattle.rules.specs.Calls.{status}
 use Rattle.rules.specs.Memory.{Memory}
-use Rattle.rules.proofs.Cases.{refusal-number}
+use Rattle.rules.proofs.Outcomes.{refusal-number}
 use Rattle.ssaldorip.specs.Block.{blockSize}
 use Rattle.ssaldorip.specs.Calls.{Lent, left, put, fills, statusIn, memoryOf}
 

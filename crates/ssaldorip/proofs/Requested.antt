@@ -31,7 +31,7 @@ use Rattle.rules.specs.Memory.{Memory}
 use Rattle.rules.specs.Request.{valueOf, replyTo, served, requestRefusals, request}
 use Rattle.rules.specs.Step.{step}
 use Rattle.rules.specs.Writes.{server, winner}
-use Rattle.rules.proofs.Cases.{refusal-number, served-number}
+use Rattle.rules.proofs.Outcomes.{refusal-number, served-number}
 use Rattle.rules.proofs.One.{happens-eight}
 use Rattle.ssaldorip.specs.Block.{blockSize}
 use Rattle.ssaldorip.specs.Calls.{vectorSize, readSize, Lent, called, onto, memoryOf, call, happening, readBytes, orShort}
