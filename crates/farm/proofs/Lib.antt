@@ -1,3 +1,4 @@
+pub mod Acted
 pub mod Prefix
 pub mod Held
 pub mod Steps
