@@ -6,4 +6,5 @@ pub mod Records
 pub mod Messages
 pub mod Round
 pub mod Answers
+pub mod Reading
 pub mod Unique

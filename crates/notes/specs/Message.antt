@@ -1,16 +1,17 @@
 -- Update messages: a header of eight bytes, then the sender's history in order.
 -- Assumes nothing.
-use Prim.Native.Nat.{ℕ, _+_, _*_, _/_, _%_}
-use mathlib.Core.Bool.{Bool, _&&_, not, cond}
+use Prim.Native.Nat.{ℕ, _+_, _*_, _-_, _/_, _%_}
+use mathlib.Core.Bool.{Bool, true, false, _&&_, not, cond}
 use mathlib.Core.List.{List, [], _∷_, _++_}
 use mathlib.Core.Option.{Option, Option·map}
+use mathlib.Core.Path.{_≡_}
 use lib.Dec.{ltb, leb, eqb}
-use lib.ListN.{length, getD, drop}
+use lib.ListN.{length, getD, take, drop}
 use Rattle.notes.specs.Lists.{every, same}
 use Rattle.notes.specs.Bytes.{Field, field, toBytes, pieces}
 use Rattle.notes.specs.Reply.{Reply, done, refused, Filled, given, first, fill}
 use Rattle.notes.specs.Index.{serverOk}
-use Rattle.notes.specs.Record.{recordSize, wellFormed, records, recordBytes}
+use Rattle.notes.specs.Record.{recordSize, decode, wellFormed, records, recordBytes}
 use Rattle.notes.specs.declared.index.ServerId.{ServerId}
 use Rattle.notes.specs.declared.record.Record.{Record}
 use Rattle.notes.specs.declared.message.Header.{Header}
@@ -20,6 +21,7 @@ use Rattle.notes.specs.declared.message.Checked.{Checked}
 use Rattle.notes.specs.declared.message.Checked.the-variants as checked
 use Rattle.notes.specs.declared.message.Written.{Written}
 use Rattle.notes.specs.declared.message.Written.the-variants as written
+use Rattle.notes.specs.declared.reader.Item.{Item}
 
 -- ---- the layout
 
@@ -145,3 +147,33 @@ writeRefusal n sender b out =
 -- the message of these records, into an output
 unfoldable pub write : ℕ → ServerId → List ℕ → List ℕ → Filled
 write n sender b out = fillUnless (writeRefusal n sender b out) (messageOf n sender (recordsIn b)) out
+
+-- ---- reading, one record behind the other
+
+-- reading begins behind the header; of a message that is refused nothing is read
+unfoldable pub firstPlace : List ℕ → ℕ
+firstPlace m = cond (messageOk m) headerSize (length m)
+
+-- a whole record stands at a place
+abbrev pub wholeAt : List ℕ → ℕ → Bool
+wholeAt m at = leb recordSize (length m - at)
+
+abbrev pub item : Bool → List ℕ → Item
+item found b = record { found = found; write = decode b }
+
+-- the record at a place, or that there is none
+unfoldable pub readAt : List ℕ → ℕ → Item
+readAt m at = cond (wholeAt m at) (item true (take recordSize (drop at m))) (item false [])
+
+-- the place behind it, or the end
+unfoldable pub placeAfter : List ℕ → ℕ → ℕ
+placeAfter m at = cond (wholeAt m at) (at + recordSize) (length m)
+
+-- how many whole records lie from a place on
+abbrev pub leftFrom : List ℕ → ℕ → ℕ
+leftFrom m at = (length m - at) / recordSize
+
+-- reading on from a place finds these writes in order, and then no more
+unfoldable pub Reads : List ℕ → ℕ → List Record → Type 0
+Reads m at [] = readAt m at .found ≡ false
+Reads m at (w ∷ ws) = (readAt m at ≡ record { found = true; write = w }) × Reads m (placeAfter m at) ws

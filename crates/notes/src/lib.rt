@@ -2,6 +2,7 @@
 pub mod index;
 pub mod message;
 pub mod raw;
+pub mod reader;
 pub mod record;
 pub mod session;
 pub mod vector;

@@ -1,0 +1,16 @@
+-- `reader::whole_at` meets its contract.
+-- Assumes nothing.
+use mathlib.Core.Path.{sym}
+use native.Mathlib.Omega.{arith}
+use borrow.Author.Tests.{lt-leb}
+use Rattle.notes.specs.Record.{recordSize}
+use Prim.Native.Nat.{_-_}
+use borrow.Author.Needs.{needs}
+use Rattle.notes.proofs.reader.whole_at.Statement.{statement}
+use Rattle.notes.proofs.reader.whole_at.Tie as tie
+
+returns : tie.Need-returns
+returns c = let a = c .before .args in sym (lt-leb recordSize (a .len - a .at) (omega arith))
+
+pub whole-at-spec : {M : Type 1} → statement M
+whole-at-spec = tie.close (tie.spec returns (search needs))
