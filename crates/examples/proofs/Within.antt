@@ -16,8 +16,7 @@ use Rattle.notes.specs.declared.message.Written.{Written}
 use Rattle.notes.specs.declared.message.Written.the-variants as written
 use Rattle.notes.proofs.Answers.{filled-within}
 use Rattle.rules.specs.Memory.{Memory}
-use Rattle.rules.specs.Answer.{refusalReply}
-use Rattle.rules.specs.Refusals.{head, isDown}
+use Rattle.rules.specs.Answer.{refusalReply, head, isDown}
 use Rattle.rules.specs.Calls as calls
 use Rattle.rules.specs.declared.answer.Refusal.{Refusal}
 use Rattle.rules.specs.declared.answer.Refusal.the-variants.{TooShort}

@@ -14,14 +14,12 @@ use Rattle.notes.specs.declared.record.Record.{Record}
 use Rattle.rules.specs.declared.event.Request.the-variants.{Read, Write}
 use Rattle.rules.specs.declared.event.What.the-variants as what
 use Rattle.rules.specs.Writes.{server, sameRecords}
-use Rattle.rules.specs.Phones.{phone}
-use Rattle.rules.specs.Memory.{writes}
+use Rattle.rules.specs.Memory.{phone, writes}
 use Rattle.rules.specs.Image.{historySize, imageSize, checkpointCount, logCount}
 use Rattle.rules.specs.Calls.{start, message}
 use Rattle.rules.proofs.Computed.{computed}
 use Rattle.rules.proofs.Script.{note}
-use Rattle.farm.specs.Farm.{Asked, Farm, newFarm}
-use Rattle.farm.specs.Act.{Act, asks, serves, cutServing, cuts, recovers, tells, takes, hears, asking, hearing, recordOf, stepAt, serving, servingCut, telling, act, run}
+use Rattle.farm.specs.Farm.{Asked, Farm, newFarm, Act, asks, serves, cutServing, cuts, recovers, tells, takes, hears, asking, hearing, recordOf, stepAt, serving, servingCut, telling, act, run}
 
 -- N servers in zeroed buffers
 abbrev pub new : ℕ → Farm

@@ -29,8 +29,7 @@ use Rattle.rules.proofs.Keeps.{recoveredIn, recovered-writes}
 use Rattle.rules.proofs.Passed as passed
 use Rattle.rules.proofs.Passed.{asked, plain}
 use Rattle.rules.proofs.Writes.{length-tally, at-tally}
-use Rattle.farm.specs.Farm.{Asked, Begun, Farm}
-use Rattle.farm.specs.Act.{run, stepAt, begunRecord}
+use Rattle.farm.specs.Farm.{Asked, Begun, Farm, run, stepAt, begunRecord}
 use Rattle.farm.specs.Demand.{Reached, Recovers, Recovery, ReadsStay, Standing, inHistory, inMessage, OneName, AllSound}
 use Rattle.farm.proofs.Prefix.{each-mem, mem-keep, keep-mem}
 use Rattle.farm.proofs.Held.{Sane, keeps, Held, held-grows}

@@ -14,8 +14,7 @@ use Rattle.rules.specs.Writes.{server, writesOf}
 use Rattle.rules.specs.Memory.{Memory}
 use Rattle.rules.specs.Sound as soundness
 use Rattle.rules.proofs.Writes.{From, writesOf-append}
-use Rattle.farm.specs.Farm.{Asked, Farm, Told, changed}
-use Rattle.farm.specs.Act.{begunRecord}
+use Rattle.farm.specs.Farm.{Asked, Farm, Told, changed, begunRecord}
 use Rattle.farm.proofs.Prefix.{Pre, pre-refl, pre-append, pre-trans, changed-same, changed-other, changed-each}
 use Rattle.farm.proofs.Held.{Sane, keeps, Kept, Numbered, Held, held-grows}
 use Rattle.farm.proofs.Known.{Grows, Flight, Deeds, Asks, performed-grows}

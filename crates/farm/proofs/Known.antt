@@ -16,8 +16,7 @@ use Rattle.notes.proofs.Pieces.{Each, each-also}
 use Rattle.notes.proofs.Vectors.{at-maximum, length-maximum}
 use Rattle.rules.specs.Writes.{server, countOf}
 use Rattle.rules.specs.Request.{isWrite}
-use Rattle.farm.specs.Farm.{Asked, Phone, Begun, Sent, Told}
-use Rattle.farm.specs.Act.{askable, begunRecord}
+use Rattle.farm.specs.Farm.{Asked, Phone, Begun, Sent, Told, askable, begunRecord}
 use Rattle.farm.proofs.Prefix.{Pre, pre-mem}
 use Rattle.farm.proofs.Held.{Numbered, Held, held-grows}
 

@@ -20,16 +20,13 @@ use Rattle.rules.specs.declared.event.What.{What}
 use Rattle.rules.specs.declared.event.What.the-variants as what
 use Rattle.rules.specs.Writes.{server, keep, writesOf, tally}
 use Rattle.rules.specs.Memory.{Memory, withState, downOf}
-use Rattle.rules.specs.Answer.{Effect, finished, unless}
-use Rattle.rules.specs.Refusals.{isDown}
+use Rattle.rules.specs.Answer.{Effect, finished, unless, isDown}
 use Rattle.rules.specs.Recovery.{recover}
-use Rattle.rules.specs.Update.{Taken, taken, takenFrom, updated, updateRefusals, update}
-use Rattle.rules.specs.Step.{plainRefusals, cut, recovery, step}
+use Rattle.rules.specs.Step.{Taken, taken, takenFrom, updated, updateRefusals, update, plainRefusals, cut, recovery, step}
 use Rattle.rules.specs.Sound as soundness
 use Rattle.rules.proofs.Passed.{brought-known, plain}
 use Rattle.rules.proofs.Writes.{writesOf-append}
-use Rattle.farm.specs.Farm.{Farm, changed}
-use Rattle.farm.specs.Act.{stepAt, plainly}
+use Rattle.farm.specs.Farm.{Farm, changed, stepAt, plainly}
 use Rattle.farm.proofs.Prefix.{Pre, each-mem, changed-same, changed-other}
 use Rattle.farm.proofs.Held.{Sane, keeps, Kept}
 use Rattle.farm.proofs.Known.{Genuine, flight-grows, performed-grows}

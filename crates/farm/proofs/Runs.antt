@@ -24,17 +24,15 @@ use Rattle.rules.specs.declared.event.What.the-variants as what
 use Rattle.rules.specs.Writes.{server, keep, writesOf}
 use Rattle.rules.specs.Memory.{Memory}
 use Rattle.rules.specs.declared.answer.Refusal.the-variants.{OutOfRange}
-use Rattle.rules.specs.Answer.{finished, unless}
+use Rattle.rules.specs.Answer.{finished, unless, short}
 use Rattle.rules.specs.Image.{historySize, imageSize, headerOk}
 use Rattle.rules.specs.Request.{isWrite}
 use Rattle.rules.specs.Calls.{fresh, noServer, start, startRefusal, message}
-use Rattle.rules.specs.Refusals.{short}
 use Rattle.rules.specs.Sound as soundness
 use Rattle.rules.proofs.Keeps.{fresh-sound}
 use Rattle.rules.proofs.Octets.{below-append, below-zeros, below-fresh}
 use Rattle.rules.proofs.Stores.{fresh-shows}
-use Rattle.farm.specs.Farm.{Replied, Phone, Sent, Told, Farm, installed, newFarm}
-use Rattle.farm.specs.Act.{Act, asks, serves, cutServing, cuts, recovers, tells, takes, hears, reinstalls, askable, carries, asking, hearing, withPhone, withRequest, serving, servingCut, telling, plainly, stepAt, inFlight, act, run}
+use Rattle.farm.specs.Farm.{Replied, Phone, Sent, Told, Farm, installed, newFarm, Act, asks, serves, cutServing, cuts, recovers, tells, takes, hears, reinstalls, askable, carries, asking, hearing, withPhone, withRequest, serving, servingCut, telling, plainly, stepAt, inFlight, act, run}
 use Rattle.farm.specs.Demand.{Lent, Reached}
 use Rattle.farm.proofs.Prefix.{pre-refl, pre-trans, at-mem, each-mem, changed-each}
 use Rattle.farm.proofs.Held.{Sane, keeps, Numbered, Held}

@@ -32,8 +32,7 @@ use Rattle.rules.proofs.Passed as passed
 use Rattle.rules.proofs.Passed.{asked, asked-cut}
 use Rattle.rules.proofs.Reading.{noted-is}
 use Rattle.rules.proofs.Writes.{length-tally, at-tally, writesOf-here, writesOf-other}
-use Rattle.farm.specs.Farm.{Asked, Replied, Begun, Farm, changed}
-use Rattle.farm.specs.Act.{askable, stepAt, beginning, recordOf, serving, servingCut}
+use Rattle.farm.specs.Farm.{Asked, Replied, Begun, Farm, changed, askable, stepAt, beginning, recordOf, serving, servingCut}
 use Rattle.farm.proofs.Prefix.{Pre, mem-each, each-mem, changed-same, changed-other}
 use Rattle.farm.proofs.Held.{Sane, keeps, Kept, Held}
 use Rattle.farm.proofs.Known.{Grows, Fair, Knows, Asks, flight-grows, performed-grows, asks-began}

@@ -25,10 +25,9 @@ use Rattle.notes.proofs.Round.{brought-back, written-right}
 use Rattle.rules.specs.declared.answer.Refusal.{Refusal}
 use Rattle.rules.specs.declared.answer.Refusal.the-variants.{TooShort}
 use Rattle.rules.specs.declared.answer.Verdict.the-variants as verdict
-use Rattle.rules.specs.Answer.{refusalReply}
+use Rattle.rules.specs.Answer.{refusalReply, head, isDown}
 use Rattle.rules.specs.Memory.{Memory, writes}
 use Rattle.rules.specs.Sound.{sound}
-use Rattle.rules.specs.Refusals.{head, isDown}
 use Rattle.rules.specs.Calls.{ownMessage, message}
 use Rattle.rules.proofs.Octets.{below-cons, below-append, below-toBytes, below-recordBytes}
 use Rattle.rules.proofs.Stores.{shows-server}

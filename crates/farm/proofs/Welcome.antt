@@ -24,17 +24,14 @@ use Rattle.rules.specs.declared.event.Request.{Request}
 use Rattle.rules.specs.declared.event.What.{What}
 use Rattle.rules.specs.declared.event.What.the-variants as what
 use Rattle.rules.specs.Memory.{Memory, withState, downOf}
-use Rattle.rules.specs.Answer.{Effect, refusalNumber, finished, unless}
+use Rattle.rules.specs.Answer.{Effect, refusalNumber, finished, unless, short, head, isDown, elsewhere}
 use Rattle.rules.specs.Image.{historySize, imageSize, logMost, logCount}
 use Rattle.rules.specs.Recovery.{recover}
 use Rattle.rules.specs.Request.{isWrite, plan, served, cutAfter, outOfRange, requestRefusals, cutRefusal, request, requestCut}
-use Rattle.rules.specs.Refusals.{short, head, isDown, elsewhere}
-use Rattle.rules.specs.Update.{taken, takenFrom, suitable, updateRefusals, update}
+use Rattle.rules.specs.Step.{taken, takenFrom, suitable, updateRefusals, update, plainRefusals, cut, recovery, happens, step}
 use Rattle.rules.specs.Sound.{sound}
-use Rattle.rules.specs.Step.{plainRefusals, cut, recovery, happens, step}
 use Rattle.rules.proofs.Passed as passed
-use Rattle.farm.specs.Farm.{Farm}
-use Rattle.farm.specs.Act.{stepAt}
+use Rattle.farm.specs.Farm.{Farm, stepAt}
 use Rattle.farm.specs.Demand.{Reached, Recovery, Welcome}
 use Rattle.farm.proofs.Prefix.{each-mem}
 use Rattle.farm.proofs.Held.{Sane, keeps}

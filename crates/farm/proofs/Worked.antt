@@ -15,11 +15,10 @@ use Rattle.rules.specs.Image.{historySize, imageSize}
 use Rattle.rules.specs.Calls.{start, message}
 use Rattle.rules.proofs.Octets.{below-zeros}
 use Rattle.rules.proofs.Computed.{computed}
-use Rattle.farm.specs.Farm.{Farm, newFarm}
+use Rattle.farm.specs.Farm.{Farm, newFarm, Act, cutServing, takes, asking, hearing, recordOf, stepAt, serving, servingCut, telling, act, run}
 use Rattle.farm.specs.Demand.{Lent, Reached, Recovers}
 use Rattle.farm.proofs.Acted.{new, reads5, acts2, late2, first2, asked2, answer2, acts8, cut8}
 use Rattle.farm.proofs.Demands.{reads-stay, recovery-holds}
-use Rattle.farm.specs.Act.{Act, cutServing, takes, asking, hearing, recordOf, stepAt, serving, servingCut, telling, act, run}
 
 -- one act more
 run-then : (f : Farm) (acts : List Act) (a : Act) → run f (acts ++ a ∷ []) ≡ act (run f acts) a

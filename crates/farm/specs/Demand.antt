@@ -9,18 +9,13 @@ use Rattle.notes.specs.Index.{servers}
 use Rattle.notes.specs.Message.{brought, messageSender}
 use Rattle.notes.specs.Record.{number}
 use Rattle.notes.specs.Vector.{zeros}
-use Rattle.notes.specs.declared.index.ServerId.{ServerId}
-use Rattle.notes.specs.declared.record.Record.{Record}
-use Rattle.notes.specs.declared.vector.Vector.{Vector}
 use Rattle.rules.specs.declared.event.Request.the-variants.{Read}
-use Rattle.rules.specs.declared.event.What.{What}
 use Rattle.rules.specs.declared.event.What.the-variants as what
 use Rattle.rules.specs.Memory.{Memory, writes}
 use Rattle.rules.specs.Image.{historySize, imageSize, checkpoint, log}
 use Rattle.rules.specs.Recovery.{later}
 use Rattle.rules.specs.Sound.{sound}
-use Rattle.farm.specs.Farm.{Asked, Begun, Farm, newFarm}
-use Rattle.farm.specs.Act.{Act, run, stepAt, begunRecord}
+use Rattle.farm.specs.Farm.{ServerId, Record, Vector, What, Asked, Begun, Farm, newFarm, Act, run, stepAt, begunRecord}
 
 -- what is lent to the servers: bytes, and enough of them
 pub record Lent (buffer : ℕ → List ℕ) (size : ℕ) : Type 0 where

@@ -1,18 +1,29 @@
--- A farm: its servers, its phones, and all that was ever sent between them.
+-- A farm: its servers, its phones and all that was ever sent between them; and what can happen on it, one thing after the other.
 -- Assumes nothing.
 use Prim.Native.Nat.{ℕ}
-use mathlib.Core.Bool.{cond}
-use mathlib.Core.List.{List, []}
-use lib.Dec.{eqb}
-use Rattle.notes.specs.Session.{newSession}
-use Rattle.notes.specs.declared.index.PhoneId.{PhoneId}
-use Rattle.notes.specs.declared.record.Record.{Record}
+use mathlib.Core.Bool.{cond, Bool, true, _&&_}
+use mathlib.Core.List.{List, [], _∷_}
+use mathlib.Core.Option.{Option, none, some}
+use lib.Dec.{eqb, ltb}
+use lib.ListN.{getD, getElem?, take}
+use Rattle.notes.specs.Session.{newSession, readCarries, writeCarries, afterRead, afterWrite}
 use Rattle.notes.specs.declared.session.Session.{Session}
-use Rattle.notes.specs.declared.vector.Vector.{Vector}
+use Rattle.notes.specs.declared.index.PhoneId.{PhoneId}
+use Rattle.notes.specs.Vector.{zeros}
+use Rattle.notes.specs.Reply.{Reply}
+pub use Rattle.notes.specs.declared.index.ServerId.{ServerId}
+pub use Rattle.notes.specs.declared.record.Record.{Record}
+pub use Rattle.notes.specs.declared.vector.Vector.{Vector}
+use Rattle.rules.specs.Request.{newRecord}
 use Rattle.rules.specs.declared.event.Request.{Request}
-use Rattle.rules.specs.Memory.{Memory}
+use Rattle.rules.specs.declared.event.Request.the-variants.{Read, Write}
+use Rattle.rules.specs.Memory.{Memory, writes}
 use Rattle.rules.specs.Writes.{server}
-use Rattle.rules.specs.Calls.{start}
+use Rattle.rules.specs.Calls.{start, message}
+use Rattle.rules.specs.Step.{step}
+use Rattle.rules.specs.declared.event.What.the-variants as what
+use Rattle.rules.specs.Answer.{Effect}
+pub use Rattle.rules.specs.declared.event.What.{What}
 
 -- ---- what is in flight stays there: it may be lost, late or repeated
 
@@ -75,3 +86,131 @@ newFarm n histories images =
 -- with another value at a number
 abbrev pub changed : {A : Type 0} → (ℕ → A) → ℕ → A → ℕ → A
 changed f k a i = cond (eqb i k) a (f i)
+
+-- ---- what can happen
+
+-- requests, replies and updates are named by their place among those in flight; stores is how many a cut leaves
+pub data Act : Type 0 where
+  asks : (i : PhoneId) (q : Request) → Act
+  serves : (request : ℕ) (j : ServerId) → Act
+  cutServing : (request : ℕ) (j : ServerId) (stores : ℕ) → Act
+  cuts : (j : ServerId) → Act
+  recovers : (j : ServerId) → Act
+  tells : (j : ServerId) (out : List ℕ) → Act
+  takes : (update : ℕ) (j : ServerId) → Act
+  hears : (reply : ℕ) → Act
+  reinstalls : (i : PhoneId) → Act
+
+-- ---- a phone
+
+-- value and phone time are numbers of four bytes
+abbrev pub askable : Request → Bool
+askable (Read cell) = true
+askable (Write cell value time) = ltb value 4294967296 && ltb time 4294967296
+
+abbrev pub carries : Session → Request → Vector
+carries s (Read cell) = readCarries s
+carries s (Write cell value time) = writeCarries s
+
+-- a request carries the session's vector as of asking
+unfoldable pub asking : Farm → PhoneId → Request → Asked
+asking f i q =
+    let p = f .phones (i .0) in
+    record { phone = i; request = q; vector = carries (p .session) q; seen = p .seen }
+
+unfoldable pub hearing : Phone → Replied → Request → Phone
+hearing p r (Read cell) = record { session = afterRead (p .session) (r .vector); seen = r .history ∷ p .seen }
+hearing p r (Write cell value time) = record { session = afterWrite (p .session) (r .vector); seen = p .seen }
+
+abbrev pub withPhone : Farm → PhoneId → Phone → Farm
+withPhone f i p = record { servers = f .servers; phones = changed (f .phones) (i .0) p; sent = f .sent; told = f .told }
+
+abbrev pub withSent : Farm → Sent → Farm
+withSent f s = record { servers = f .servers; phones = f .phones; sent = s; told = f .told }
+
+abbrev pub withRequest : Farm → Asked → Farm
+withRequest f q =
+    let s = f .sent in
+    withSent f (record { requests = q ∷ s .requests; replies = s .replies; updates = s .updates })
+
+-- ---- a server: each step is document 01's, on bytes
+
+-- not refused
+abbrev pub isDone : Reply → Bool
+isDone r = eqb (r .number) 0
+
+abbrev pub ifDone : {A : Type 0} → Reply → A → List A → List A
+ifDone r x l = cond (isDone r) (x ∷ l) l
+
+unfoldable pub stepAt : Farm → ServerId → What → Vector → List ℕ → Effect
+stepAt f j w v msg = step (f .servers (j .0)) (record { server = j; what = w }) v msg
+
+-- the server's memory is what the step leaves
+abbrev pub stepped : Farm → ServerId → Effect → Sent → Told → Farm
+stepped f j e s t = record { servers = changed (f .servers) (j .0) (e .after); phones = f .phones; sent = s; told = t }
+
+-- a step that is no request's
+abbrev pub plainly : Farm → ServerId → Effect → Farm
+plainly f j e = stepped f j e (f .sent) (f .told)
+
+-- one more at a number, unless refused
+abbrev pub also : {A : Type 0} → Reply → (ℕ → List A) → ServerId → A → ℕ → List A
+also r l j x = changed l (j .0) (ifDone r x (l (j .0)))
+
+abbrev pub beginning : Farm → ServerId → Asked → Begun
+beginning f j q = record { asked = q; before = f .servers (j .0) }
+
+-- the record that document 01 gives a write's request in that memory
+unfoldable pub recordOf : Memory → PhoneId → Request → List Record
+recordOf m i (Read cell) = []
+recordOf m i (Write cell value time) = newRecord m i cell value time ∷ []
+
+abbrev pub begunRecord : Begun → List Record
+begunRecord b = recordOf (b .before) (b .asked .phone) (b .asked .request)
+
+unfoldable pub serving : Farm → ServerId → Asked → Farm
+serving f j q =
+    let e = stepAt f j (what.Request (q .phone) (q .request)) (q .vector) [] in
+    let r : Replied = record { phone = q .phone; request = q .request; vector = e .vector; history = writes (e .after) } in
+    let s = f .sent in
+    let t = f .told in
+    let b = beginning f j q in
+    stepped f j e
+    (record { requests = s .requests; replies = ifDone (e .reply) r (s .replies); updates = s .updates })
+    (record { performed = also (e .reply) (t .performed) j b; begun = also (e .reply) (t .begun) j b })
+
+unfoldable pub servingCut : Farm → ServerId → Asked → ℕ → Farm
+servingCut f j q k =
+    let e = stepAt f j (what.RequestCut (q .phone) (q .request) k) (q .vector) [] in
+    let t = f .told in
+    stepped f j e (f .sent) (record { performed = t .performed; begun = also (e .reply) (t .begun) j (beginning f j q) })
+
+-- the bytes that the server's own-message call gives
+unfoldable pub telling : Farm → ServerId → List ℕ → Farm
+telling f j out =
+    let t = message (f .servers (j .0)) out in
+    let msg = take (getD (t .reply .values) 0 0) (t .output) in
+    let s = f .sent in
+    withSent f (record { requests = s .requests; replies = s .replies; updates = ifDone (t .reply) msg (s .updates) })
+
+-- ---- either, where what it names is in flight
+
+abbrev pub inFlight : {A : Type 0} → Option A → Farm → (A → Farm) → Farm
+inFlight none f next = f
+inFlight (some a) f next = next a
+
+unfoldable pub act : Farm → Act → Farm
+act f (asks i q) = cond (askable q) (withRequest f (asking f i q)) f
+act f (serves k j) = inFlight (getElem? (f .sent .requests) k) f (λ q. serving f j q)
+act f (cutServing k j stores) = inFlight (getElem? (f .sent .requests) k) f (λ q. servingCut f j q stores)
+act f (cuts j) = plainly f j (stepAt f j what.Cut zeros [])
+act f (recovers j) = plainly f j (stepAt f j what.Recovery zeros [])
+act f (tells j out) = telling f j out
+act f (takes k j) = inFlight (getElem? (f .sent .updates) k) f (λ msg. plainly f j (stepAt f j what.Update zeros msg))
+act f (hears k) = inFlight (getElem? (f .sent .replies) k) f (λ r. withPhone f (r .phone) (hearing (f .phones (r .phone .0)) r (r .request)))
+act f (reinstalls i) = withPhone f i installed
+
+-- a run
+unfoldable pub run : Farm → List Act → Farm
+run f [] = f
+run f (a ∷ acts) = run (act f a) acts

@@ -1,3 +1,2 @@
 pub mod Farm
-pub mod Act
 pub mod Demand

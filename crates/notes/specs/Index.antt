@@ -3,7 +3,8 @@
 use Prim.Native.Nat.{ℕ}
 use mathlib.Core.Bool.{Bool, _&&_}
 use lib.Dec.{ltb, leb}
-use Rattle.notes.specs.declared.index.ServerId.{ServerId}
+pub use Rattle.notes.specs.declared.index.ServerId.{ServerId}
+pub use Rattle.notes.specs.declared.index.PhoneId.{PhoneId}
 
 -- the most servers that a farm has, and the phones that there are
 abbrev pub servers : ℕ

@@ -10,10 +10,8 @@ use lib.ListN.{length, getD, take, drop}
 use Rattle.notes.specs.Lists.{every, same}
 use Rattle.notes.specs.Bytes.{Field, field, toBytes, pieces}
 use Rattle.notes.specs.Reply.{Reply, done, refused, Filled, given, first, fill}
-use Rattle.notes.specs.Index.{serverOk}
-use Rattle.notes.specs.Record.{recordSize, decode, wellFormed, records, recordBytes}
-use Rattle.notes.specs.declared.index.ServerId.{ServerId}
-use Rattle.notes.specs.declared.record.Record.{Record}
+use Rattle.notes.specs.Index.{serverOk, ServerId}
+use Rattle.notes.specs.Record.{recordSize, decode, wellFormed, records, recordBytes, Record}
 use Rattle.notes.specs.declared.message.Header.{Header}
 use Rattle.notes.specs.declared.message.Refusal.{Refusal}
 use Rattle.notes.specs.declared.message.Refusal.the-variants.{OutOfRange, Malformed, TooShort}

@@ -7,10 +7,9 @@ use lib.Dec.{ltb, leb, eqb}
 use lib.ListN.{length, take, replicate}
 use Rattle.notes.specs.Bytes.{field}
 use Rattle.notes.specs.Index.{servers, serverOk}
-use Rattle.notes.specs.Vector.{vector}
+use Rattle.notes.specs.Vector.{vector, Vector}
 use Rattle.notes.specs.Record.{numberMost}
 use Rattle.notes.specs.Message.{headerSize, countField, offsetField, totalField, historyMost, messageSize, messageN, messageSender}
-use Rattle.notes.specs.declared.vector.Vector.{Vector}
 
 -- the most that a position of a well formed T holds, and each of the eight: zero from n on
 abbrev pub limitAt : ℕ → ℕ → ℕ

@@ -8,9 +8,8 @@ use lib.ListN.{drop}
 use Rattle.notes.specs.Lists.{every, above}
 use Rattle.notes.specs.Bytes.{Field, field, toBytes, pieces}
 use Rattle.notes.specs.Index.{phones}
-use Rattle.notes.specs.Vector.{at, sum, zeroFrom, vectorFrom, vectorBytes}
-use Rattle.notes.specs.declared.record.Record.{Record}
-use Rattle.notes.specs.declared.vector.Vector.{Vector}
+use Rattle.notes.specs.Vector.{at, sum, zeroFrom, vectorFrom, vectorBytes, Vector}
+pub use Rattle.notes.specs.declared.record.Record.{Record}
 
 -- the bytes of a record, and where its numbers stand
 abbrev pub recordSize : ℕ

@@ -1,8 +1,7 @@
 -- The phone's session: what a request carries, and what a reply leaves.
 -- Assumes nothing.
-use Rattle.notes.specs.Vector.{zeros, maximum}
-use Rattle.notes.specs.declared.vector.Vector.{Vector}
-use Rattle.notes.specs.declared.session.Session.{Session}
+use Rattle.notes.specs.Vector.{zeros, maximum, Vector}
+pub use Rattle.notes.specs.declared.session.Session.{Session}
 
 -- a new session begins at zero
 abbrev pub newSession : Session

@@ -7,9 +7,8 @@ use lib.Dec.{ltb, eqb}
 use lib.ListN.{getD, set, drop, replicate}
 use Rattle.notes.specs.Lists.{every, any}
 use Rattle.notes.specs.Bytes.{fromBytes, toBytes, pieces}
-use Rattle.notes.specs.Index.{servers}
-use Rattle.notes.specs.declared.index.ServerId.{ServerId}
-use Rattle.notes.specs.declared.vector.Vector.{Vector}
+use Rattle.notes.specs.Index.{servers, ServerId}
+pub use Rattle.notes.specs.declared.vector.Vector.{Vector}
 
 abbrev pub vector : List ℕ → Vector
 vector l = record { counts = l }

@@ -22,7 +22,7 @@ use Rattle.rules.specs.declared.answer.Refusal.{Refusal}
 use Rattle.rules.specs.declared.answer.Refusal.the-variants.{OutOfRange, NotYet, HistoryFull, LogFull}
 use Rattle.rules.specs.Memory.{Memory}
 use Rattle.rules.specs.Image.{logMost, logCount}
-use Rattle.rules.specs.Refusals.{head, isDown}
+use Rattle.rules.specs.Answer.{head, isDown}
 use Rattle.rules.specs.Request.{plan, cellOf, isWrite, outOfRange, requestRefusals, cutRefusal}
 
 module _ (m : Memory) (j : ServerId) (i : PhoneId) (q : Request) (v : Vector) where

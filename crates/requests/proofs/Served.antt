@@ -17,11 +17,9 @@ use Rattle.notes.proofs.Records.{length-records}
 use Rattle.rules.specs.declared.answer.Answer.the-variants as answer
 use Rattle.rules.specs.declared.event.Request.the-variants.{Read}
 use Rattle.rules.specs.declared.state.State.{State}
-use Rattle.rules.specs.Phones.{withPhone}
+use Rattle.rules.specs.Memory.{withPhone, Memory, memory, inCR, rwWith, noting, writes}
 use Rattle.rules.specs.Writes.{winner}
-use Rattle.rules.specs.Memory.{Memory, memory, inCR, rwWith, noting, writes}
-use Rattle.rules.specs.Image.{historySize, imageSize, checkpointCount, checkpoint, log}
-use Rattle.rules.specs.Stores.{stored, checkpointPlan}
+use Rattle.rules.specs.Image.{historySize, imageSize, checkpointCount, checkpoint, log, stored, checkpointPlan}
 use Rattle.rules.specs.Answer.{valueReply, answerReply, effectOf}
 use Rattle.rules.specs.Sound.{sound}
 use Rattle.rules.specs.Request.{noted, cleared, valueOf, due, ownPlan, plan, ready, performed, replyTo, served}
@@ -29,7 +27,7 @@ use Rattle.rules.proofs.Stores.{shows-counts, length-checkpointPlan}
 use Rattle.rules.proofs.Sound.{kept-few}
 use Rattle.rules.proofs.Open.{Up, opened}
 use Rattle.requests.specs.declared.winner.Won.{Won}
-use Rattle.requests.specs.Winner.{winnerOf, winnerValue}
+use Rattle.requests.specs.Parts.{winnerOf, winnerValue}
 
 -- ---- a sound memory that is up
 

@@ -8,10 +8,9 @@ use lib.ListN.{length, take, drop, length-take, length-drop}
 use lib.Seq.{sets, take-all}
 use Rattle.notes.specs.Record.{recordSize, encode}
 use Rattle.notes.specs.declared.record.Record.{Record}
-use Rattle.rules.specs.Image.{checkpointField, logField, checkpointPlace, logPlace}
-use Rattle.rules.specs.Stores.{Store, count, store, stored, byteStores, writePlan, checkpointPlan}
+use Rattle.rules.specs.Image.{checkpointField, logField, checkpointPlace, logPlace, Store, count, store, stored, byteStores, writePlan, checkpointPlan}
 use Rattle.rules.proofs.Stores.{cut-bytes}
-use Rattle.requests.specs.Stored.{writeBytesPlan}
+use Rattle.requests.specs.Parts.{writeBytesPlan}
 
 -- the first k, or all where there are fewer
 pub take-least : (k : ℕ) (l : List ℕ) → take (min k (length l)) l ≡ take k l

@@ -17,16 +17,15 @@ use Rattle.notes.proofs.Records.{length-records, length-encode}
 use Rattle.rules.specs.declared.state.State.{State}
 use Rattle.rules.specs.declared.event.Request.the-variants.{Write}
 use Rattle.rules.specs.Memory.{Memory, memory, downOf, noting, holding, writes}
-use Rattle.rules.specs.Image.{imageSize, logCount, checkpoint, log}
+use Rattle.rules.specs.Image.{imageSize, logCount, checkpoint, log, stored, writePlan}
 use Rattle.rules.specs.Sound.{sound}
-use Rattle.rules.specs.Stores.{stored, writePlan}
 use Rattle.rules.specs.Answer.{replying, writtenReply, finished}
 use Rattle.rules.specs.Request.{newVector, newRecord, written, noted, due, ownPlan, plan, ready, performed, replyTo, served, cutAfter}
 use Rattle.rules.proofs.Writes.{countOf-few, length-tally}
 use Rattle.rules.proofs.Stores.{length-writePlan}
 use Rattle.rules.proofs.Sound.{own-count}
 use Rattle.rules.proofs.Open.{opened, own-low}
-use Rattle.requests.specs.Stored.{writeBytesPlan}
+use Rattle.requests.specs.Parts.{writeBytesPlan}
 use Rattle.requests.proofs.Storing.{write-plan}
 
 -- the numbers of a sound state that is up are small

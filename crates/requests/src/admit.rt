@@ -11,7 +11,7 @@ ghost use Rattle.rules.specs.Image.{imageSize, logMost, logCount};
 ghost use Rattle.rules.specs.declared.answer.Refusal.the-variants.{HistoryFull, LogFull};
 ghost use Rattle.rules.specs.Memory.{memory};
 ghost use Rattle.rules.specs.Request.{cellOf, isWrite, outOfRange, requestRefusals};
-ghost use Rattle.sound.specs.Head.{headRefusal};
+ghost use Rattle.sound.specs.Tests.{headRefusal};
 use notes::index::PhoneId;
 use notes::index::ServerId;
 use notes::message::Header;

@@ -4,7 +4,7 @@ ghost use Prim.Native.Nat.{_+_, _*_, _≤_, _<_};
 ghost use lib.ListN.{length};
 ghost use Rattle.notes.specs.Record.{recordSize, records, beats as beatsBy};
 ghost use Rattle.rules.specs.Writes.{winner as winnerIn};
-ghost use Rattle.requests.specs.Winner.{recordAt, bestAt, orBetter, winnerOf, winnerValue};
+ghost use Rattle.requests.specs.Parts.{recordAt, bestAt, orBetter, winnerOf, winnerValue};
 use notes::raw;
 use notes::record::Record;
 

@@ -7,7 +7,7 @@ use Rattle.notes.specs.declared.record.Record.{Record}
 use Rattle.rules.specs.declared.event.Request.the-variants.{Read, Write}
 use Rattle.rules.specs.declared.event.What.the-variants as what
 use Rattle.rules.specs.Writes.{server}
-use Rattle.rules.specs.Phones.{phone}
+use Rattle.rules.specs.Memory.{phone}
 use Rattle.rules.proofs.Script.{Script, script, turn, Left, vec, act, note, write5, read, writeCut, readCut, cut, recover, takeBytes, takeFrom, wrote, value, done, refusal, reader, leaves, down, holds, AllHold}
 use Rattle.rules.proofs.Computed.{computed}
 

@@ -23,11 +23,9 @@ use Rattle.rules.specs.declared.event.What.the-variants as what
 use Rattle.rules.specs.declared.state.State.{State}
 use Rattle.rules.specs.Memory.{Memory, withState, downOf, writes}
 use Rattle.rules.specs.Recovery.{recover}
-use Rattle.rules.specs.Answer.{Effect, effectOf, verdictReply, statusReply, finished}
-use Rattle.rules.specs.Refusals.{isDown}
+use Rattle.rules.specs.Answer.{Effect, effectOf, verdictReply, statusReply, finished, isDown}
 use Rattle.rules.specs.Request.{noted, cleared, due, ready, performed, served, cutAfter, written, newRecord, requestRefusals, cutRefusal, request, requestCut}
-use Rattle.rules.specs.Update.{takenFrom, updated, updateRefusals, update}
-use Rattle.rules.specs.Step.{plainRefusals, cut, recovery, happens, step}
+use Rattle.rules.specs.Step.{takenFrom, updated, updateRefusals, update, plainRefusals, cut, recovery, happens, step}
 use Rattle.rules.specs.Calls.{judge, fresh, noServer, startRefusal, start, status, found, lookUp, filled, message}
 use Rattle.rules.proofs.Writes.{length-tally}
 use Rattle.rules.proofs.Passed.{Asked, asked, unless-either}

@@ -23,11 +23,9 @@ use Rattle.rules.specs.Writes.{winner}
 use Rattle.rules.specs.Memory.{Memory, withState, downOf, writes}
 use Rattle.rules.specs.Recovery.{recover}
 use Rattle.rules.specs.Sound.{sound}
-use Rattle.rules.specs.Answer.{Effect, refusalReply, replying, finished}
-use Rattle.rules.specs.Refusals.{isDown}
+use Rattle.rules.specs.Answer.{Effect, refusalReply, replying, finished, isDown}
 use Rattle.rules.specs.Request.{valueOf, replyTo, served, cutAfter, requestRefusals, cutRefusal, request, requestCut}
-use Rattle.rules.specs.Update.{takenFrom, updated, updateRefusals, update}
-use Rattle.rules.specs.Step.{plainRefusals, cut, recovery, happens, step}
+use Rattle.rules.specs.Step.{takenFrom, updated, updateRefusals, update, plainRefusals, cut, recovery, happens, step}
 use Rattle.rules.proofs.Passed.{Head, Asked, Brought, Plain, unless-either, asked, asked-cut, brought-known, plain}
 use Rattle.rules.proofs.Reading.{after}
 use Rattle.rules.proofs.Writing as writing

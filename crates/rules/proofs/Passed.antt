@@ -24,11 +24,9 @@ use Rattle.rules.specs.declared.event.Request.{Request}
 use Rattle.rules.specs.Memory.{Memory}
 use Rattle.rules.specs.Image.{historySize, imageSize, logMost, logCount}
 use Rattle.rules.specs.Sound.{sound}
-use Rattle.rules.specs.Answer.{Effect, refusalReply, replying, unless}
-use Rattle.rules.specs.Refusals.{short, head, isDown, elsewhere}
+use Rattle.rules.specs.Answer.{Effect, refusalReply, replying, unless, short, head, isDown, elsewhere}
 use Rattle.rules.specs.Request.{plan, cellOf, isWrite, outOfRange, requestRefusals, cutRefusal}
-use Rattle.rules.specs.Update.{takenFrom, suitable, updateRefusals}
-use Rattle.rules.specs.Step.{plainRefusals}
+use Rattle.rules.specs.Step.{takenFrom, suitable, updateRefusals, plainRefusals}
 
 -- ---- a list of refusals of which none is given
 pub ungiven : {A : Type 0} (b : Bool) (r : A) (rest : List (Option A)) → first (given b r ∷ rest) ≡ none → (b ≡ false) × (first rest ≡ none)

@@ -22,8 +22,7 @@ use Rattle.notes.proofs.Vectors.{zeros-at}
 use Rattle.rules.specs.declared.event.Request.{Request}
 use Rattle.rules.specs.declared.event.Request.the-variants.{Read, Write}
 use Rattle.rules.specs.declared.state.State.{State}
-use Rattle.rules.specs.Phones.{phone, phoneIds, inSet, withPhone}
-use Rattle.rules.specs.Memory.{inCR, rwAt, rwWith, blank, holding, noting}
+use Rattle.rules.specs.Memory.{phone, phoneIds, inSet, withPhone, inCR, rwAt, rwWith, blank, holding, noting}
 use Rattle.rules.specs.Sound.{rwOk, readsOk}
 use Rattle.rules.specs.Request.{noted, cleared}
 use Rattle.rules.proofs.Lists.{every-counting, counting-every}

@@ -20,11 +20,9 @@ use Rattle.notes.proofs.Records.{length-records}
 use Rattle.rules.specs.declared.event.Request.{Request}
 use Rattle.rules.specs.declared.event.Request.the-variants.{Read, Write}
 use Rattle.rules.specs.declared.state.State.{State}
-use Rattle.rules.specs.Phones.{withPhone}
-use Rattle.rules.specs.Memory.{Memory, memory, inCR, rwWith, downOf, noting, writes}
-use Rattle.rules.specs.Image.{checkpointCount, checkpoint, log}
+use Rattle.rules.specs.Memory.{withPhone, Memory, memory, inCR, rwWith, downOf, noting, writes}
+use Rattle.rules.specs.Image.{checkpointCount, checkpoint, log, Store, stored, checkpointPlan}
 use Rattle.rules.specs.Sound.{sound}
-use Rattle.rules.specs.Stores.{Store, stored, checkpointPlan}
 use Rattle.rules.specs.Request.{noted, cleared}
 use Rattle.rules.proofs.Phones.{reads-cleared, reads-noted}
 use Rattle.rules.proofs.Stores.{Shows, shows-counts, length-checkpointPlan, checkpoint-cut, checkpoint-counted, checkpoint-all}

@@ -15,8 +15,7 @@ use Rattle.rules.specs.declared.event.What.{What}
 use Rattle.rules.specs.declared.event.What.the-variants as what
 use Rattle.rules.specs.declared.state.ReadTable.{ReadTable}
 use Rattle.rules.specs.Writes.{serverIds, sameRecords, server}
-use Rattle.rules.specs.Phones.{members, phone}
-use Rattle.rules.specs.Memory.{Memory, noReads, writes}
+use Rattle.rules.specs.Memory.{members, phone, Memory, noReads, writes}
 use Rattle.rules.specs.Image.{checkpointCount, logCount}
 use Rattle.rules.specs.Answer.{Effect}
 use Rattle.rules.specs.Step.{step}

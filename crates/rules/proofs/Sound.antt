@@ -29,12 +29,11 @@ use Rattle.rules.specs.declared.event.Request.the-variants.{Read, Write}
 use Rattle.rules.specs.declared.state.ReadTable.{ReadTable}
 use Rattle.rules.specs.declared.state.State.{State}
 use Rattle.rules.specs.Writes.{keep, counting, writesOf, countOf, tally, inTurn, sameRecords}
-use Rattle.rules.specs.Phones.{withPhone}
-use Rattle.rules.specs.Memory.{inCR, rwWith, holding, noting}
+use Rattle.rules.specs.Memory.{withPhone, inCR, rwWith, holding, noting}
 use Rattle.rules.specs.Recovery.{later, recovered, raisedBy, recoveredVector, recoveredState}
 use Rattle.rules.specs.Sound.{vCounts, isFirst, last, isLast, holdsBefore, writesOk, readsOk, consistent}
 use Rattle.rules.specs.Request.{newVector, cleared, noted}
-use Rattle.rules.specs.Update.{Turn, skipped, appended, refuses, atTurn, vectorAfter, Taken, andThen, taken}
+use Rattle.rules.specs.Step.{Turn, skipped, appended, refuses, atTurn, vectorAfter, Taken, andThen, taken}
 use Rattle.rules.proofs.Lists.{every-take, every-drop, every-keep, keep-passes}
 use Rattle.rules.proofs.Writes.{InTurn, in-turn, turn-in, turn-more, same-records, records-same, at-tally, tally-more, countOf-take, writesOf-append, writesOf-here, writesOf-other, writesOf-take, writesOf-all, writesOf-none, countOf-append, countOf-few, From, from-above, from-drop, raised-by, turn-first, same-server}
 

@@ -12,7 +12,7 @@ use lib.ListN.{length}
 use lib.Pow.{shr-shr, shr-lt}
 use Rattle.notes.specs.declared.index.PhoneId.{PhoneId}
 use Rattle.rules.specs.Writes.{keepIf, keep, counting}
-use Rattle.rules.specs.Phones.{phone, phoneIds, inSet, members}
+use Rattle.rules.specs.Memory.{phone, phoneIds, inSet, members}
 use Rattle.rules.specs.Calls.{lowest}
 
 -- no more digits are looked at than the number has

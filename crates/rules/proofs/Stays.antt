@@ -18,14 +18,11 @@ use Rattle.rules.specs.declared.event.Request.the-variants.{Read, Write}
 use Rattle.rules.specs.declared.event.What.{What}
 use Rattle.rules.specs.declared.event.What.the-variants as what
 use Rattle.rules.specs.Memory.{Memory, withState, downOf}
-use Rattle.rules.specs.Image.{historySize, checkpointCount, logCount}
+use Rattle.rules.specs.Image.{historySize, checkpointCount, logCount, checkpointPlan}
 use Rattle.rules.specs.Recovery.{recoveredHistory, recover}
-use Rattle.rules.specs.Stores.{checkpointPlan}
-use Rattle.rules.specs.Answer.{finished}
-use Rattle.rules.specs.Refusals.{isDown}
+use Rattle.rules.specs.Answer.{finished, isDown}
 use Rattle.rules.specs.Request.{newRecord, written, due, ownPlan, plan, performed, served, cutAfter, requestRefusals, cutRefusal, request, requestCut}
-use Rattle.rules.specs.Update.{takenFrom, updated, updateRefusals, update}
-use Rattle.rules.specs.Step.{plainRefusals, cut, recovery, happens, step}
+use Rattle.rules.specs.Step.{takenFrom, updated, updateRefusals, update, plainRefusals, cut, recovery, happens, step}
 use Rattle.rules.proofs.Octets.{below-append, below-sets, below-zeros, below-encode, below-recordBytes, each-take, IsByte, below-stored, write-bytes, checkpoint-bytes}
 use Rattle.rules.proofs.Passed.{Asked, Brought, unless-keeps, asked, asked-cut, brought-known}
 use Rattle.rules.proofs.Reading.{own}

@@ -18,9 +18,8 @@ use Rattle.notes.proofs.Records.{length-records}
 use Rattle.rules.specs.declared.event.Request.the-variants.{Write}
 use Rattle.rules.specs.declared.state.State.{State}
 use Rattle.rules.specs.Memory.{Memory, memory, downOf, noting, holding, writes}
-use Rattle.rules.specs.Image.{logCount, checkpoint, log}
+use Rattle.rules.specs.Image.{logCount, checkpoint, log, stored, writePlan}
 use Rattle.rules.specs.Sound.{sound}
-use Rattle.rules.specs.Stores.{stored, writePlan}
 use Rattle.rules.specs.Request.{newVector, newRecord}
 use Rattle.rules.proofs.Phones.{reads-more}
 use Rattle.rules.proofs.Places.{records-appended, records-one}

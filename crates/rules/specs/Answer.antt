@@ -1,23 +1,28 @@
--- What calls answer, in document 01's numbers and values.
+-- What calls answer, in document 01's numbers and values, and what every call on a server refuses first.
 -- Assumes nothing.
 use Prim.Native.Nat.{ℕ}
-use mathlib.Core.List.{List, [], _∷_}
+use mathlib.Core.List.{List, [], _∷_, _++_}
 use mathlib.Core.Option.{Option, none, some}
-use Rattle.notes.specs.Reply.{Reply, done, refused}
+use mathlib.Core.Bool.{Bool, _||_, not}
+use lib.Dec.{ltb, eqb}
+use lib.ListN.{length}
+use Rattle.notes.specs.Reply.{Reply, done, refused, given}
 use Rattle.notes.specs.Vector.{zeros}
-use Rattle.notes.specs.declared.vector.Vector.{Vector}
+use Rattle.rules.specs.Writes.{Vector, ServerId}
 use Rattle.rules.specs.declared.answer.Answer.{Answer}
 use Rattle.rules.specs.declared.answer.Answer.the-variants as answer
 use Rattle.rules.specs.declared.answer.Message.{Message}
 use Rattle.rules.specs.declared.answer.Message.the-variants as message
 use Rattle.rules.specs.declared.answer.Outcome.{Outcome}
-use Rattle.rules.specs.declared.answer.Refusal.{Refusal}
-use Rattle.rules.specs.declared.answer.Refusal.the-variants.{OutOfRange, NotUp, NotYet, HistoryFull, LogFull, Unsound, Gap, OwnAhead, TooShort}
 use Rattle.rules.specs.declared.answer.Verdict.{Verdict}
 use Rattle.rules.specs.declared.answer.Verdict.the-variants as verdict
 use Rattle.rules.specs.declared.answer.Status.{Status}
 use Rattle.rules.specs.declared.answer.Status.the-variants as status
 use Rattle.rules.specs.Memory.{Memory, memory}
+use Rattle.rules.specs.Image.{historySize, imageSize}
+use Rattle.rules.specs.Sound.{sound}
+pub use Rattle.rules.specs.declared.answer.Refusal.{Refusal}
+pub use Rattle.rules.specs.declared.answer.Refusal.the-variants.{OutOfRange, NotUp, NotYet, HistoryFull, LogFull, Unsound, Gap, OwnAhead, TooShort}
 
 -- ---- refusals
 
@@ -98,3 +103,23 @@ statusReply (status.Refused r) = refusalReply r
 abbrev pub messageReply : Message → Reply
 messageReply (message.Bytes k) = done (k ∷ [])
 messageReply (message.Refused r) = refusalReply r
+
+-- ---- what every call on a server refuses first: 9 for history and image, 6 for state, 2
+
+-- a lent buffer too short
+abbrev pub short : Memory → Bool
+short m = ltb (length (m .history)) historySize || ltb (length (m .image)) imageSize
+
+abbrev pub judged : Memory → List (Option Refusal)
+judged m = given (short m) TooShort ∷ given (not (sound m)) Unsound ∷ []
+
+-- the head of each call's list, given whether the server is up where it must be down or down where it must be up
+abbrev pub head : Memory → Bool → List (Option Refusal)
+head m wrong = judged m ++ given wrong NotUp ∷ []
+
+abbrev pub isDown : Memory → Bool
+isDown m = not (m .state .up)
+
+-- the event's server isn't the state's own
+abbrev pub elsewhere : Memory → ServerId → Bool
+elsewhere m j = not (eqb (j .0) (m .state .own .0))

@@ -10,19 +10,12 @@ use Rattle.notes.specs.Reply.{Reply, done, Filled, given, orElse, first, fill}
 use Rattle.notes.specs.Index.{serverOk}
 use Rattle.notes.specs.Record.{recordSize, number}
 use Rattle.notes.specs.Message.{messageSize, messageOf}
-use Rattle.notes.specs.declared.index.PhoneId.{PhoneId}
-use Rattle.notes.specs.declared.index.ServerId.{ServerId}
-use Rattle.notes.specs.declared.record.Record.{Record}
 use Rattle.rules.specs.declared.answer.Message.{Message}
-use Rattle.rules.specs.declared.answer.Refusal.{Refusal}
-use Rattle.rules.specs.declared.answer.Refusal.the-variants.{OutOfRange, Unsound, TooShort}
-use Rattle.rules.specs.Writes.{server}
-use Rattle.rules.specs.Phones.{members}
-use Rattle.rules.specs.Memory.{Memory, memory, blank, writes}
+use Rattle.rules.specs.Answer.{Refusal, OutOfRange, Unsound, TooShort, Effect, refusalReply, doneReply, finished, unless, messageReply, short, judged, head, isDown}
+use Rattle.rules.specs.Writes.{ServerId, Record, server}
+use Rattle.rules.specs.Memory.{PhoneId, members, Memory, memory, blank, writes}
 use Rattle.rules.specs.Image.{historySize, imageSize, imageN, imageOwn, checkpointPlace, logPlace, checkpoint, log, freshImage}
 use Rattle.rules.specs.Sound.{suits}
-use Rattle.rules.specs.Answer.{Effect, refusalReply, doneReply, finished, unless, messageReply}
-use Rattle.rules.specs.Refusals.{short, judged, head, isDown}
 
 -- a refusal, or else a reply
 abbrev pub replyUnless : Option Refusal → Reply → Reply

@@ -1,13 +1,9 @@
 pub mod Writes
-pub mod Phones
 pub mod Memory
-pub mod Image
 pub mod Recovery
 pub mod Sound
-pub mod Stores
+pub mod Image
 pub mod Answer
-pub mod Refusals
 pub mod Request
-pub mod Update
 pub mod Step
 pub mod Calls

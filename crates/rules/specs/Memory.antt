@@ -1,19 +1,36 @@
--- A server's memory: its state, its history and its stored image.
+-- A server's memory: its state, its history and its stored image; sets of phones as numbers.
 -- Assumes nothing.
-use Prim.Native.Nat.{ℕ}
+use Prim.Native.Nat.{ℕ, _/_, _%_, _^_}
 use mathlib.Core.Bool.{Bool, false}
-use mathlib.Core.List.{List}
+use mathlib.Core.List.{List, map}
+use lib.Bits.{bitOr}
+use lib.Dec.{eqb}
 use lib.ListN.{getD, set, replicate}
 use Rattle.notes.specs.Index.{phones}
 use Rattle.notes.specs.Vector.{zeros}
 use Rattle.notes.specs.Record.{records}
-use Rattle.notes.specs.declared.index.PhoneId.{PhoneId}
-use Rattle.notes.specs.declared.index.ServerId.{ServerId}
-use Rattle.notes.specs.declared.record.Record.{Record}
-use Rattle.notes.specs.declared.vector.Vector.{Vector}
+pub use Rattle.notes.specs.declared.index.PhoneId.{PhoneId}
+use Rattle.rules.specs.Writes.{ServerId, Vector, Record, counting, keep}
 use Rattle.rules.specs.declared.state.ReadTable.{ReadTable}
-use Rattle.rules.specs.declared.state.State.{State}
-use Rattle.rules.specs.Phones.{inSet}
+pub use Rattle.rules.specs.declared.state.State.{State}
+
+-- ---- sets of phones: phone i is in the set where bit i is 1
+
+abbrev pub phone : ℕ → PhoneId
+phone i = record { 0 = i }
+
+unfoldable pub phoneIds : List PhoneId
+phoneIds = map phone (counting 0 phones)
+
+unfoldable pub inSet : ℕ → PhoneId → Bool
+inSet set i = eqb (set / 2 ^ (i .0) % 2) 1
+
+unfoldable pub withPhone : ℕ → PhoneId → ℕ
+withPhone set i = bitOr set (2 ^ (i .0))
+
+-- the phones of a set, ascending
+unfoldable pub members : ℕ → List PhoneId
+members set = keep (inSet set) phoneIds
 
 -- ---- the state
 

@@ -7,12 +7,8 @@ use lib.Dec.{ltb}
 use lib.ListN.{length, drop, replicate}
 use Rattle.notes.specs.Vector.{at, raised}
 use Rattle.notes.specs.Record.{recordSize, number, recordBytes}
-use Rattle.notes.specs.declared.index.ServerId.{ServerId}
-use Rattle.notes.specs.declared.record.Record.{Record}
-use Rattle.notes.specs.declared.vector.Vector.{Vector}
-use Rattle.rules.specs.declared.state.State.{State}
-use Rattle.rules.specs.Writes.{keep, countOf, tally}
-use Rattle.rules.specs.Memory.{Memory, memory, blank, holding, noting, noReads}
+use Rattle.rules.specs.Memory.{State, Memory, memory, blank, holding, noting, noReads}
+use Rattle.rules.specs.Writes.{Vector, Record, ServerId, keep, countOf, tally}
 use Rattle.rules.specs.Image.{historySize, checkpoint, log}
 
 -- ---- from the checkpoint's records and the log's

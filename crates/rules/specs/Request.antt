@@ -12,22 +12,12 @@ use Rattle.notes.specs.Index.{phones}
 use Rattle.notes.specs.Vector.{at, raised, behind, zeroFrom}
 use Rattle.notes.specs.Record.{recordSize, cells, encode}
 use Rattle.notes.specs.Message.{historyMost}
-use Rattle.notes.specs.declared.index.PhoneId.{PhoneId}
-use Rattle.notes.specs.declared.index.ServerId.{ServerId}
-use Rattle.notes.specs.declared.record.Record.{Record}
-use Rattle.notes.specs.declared.vector.Vector.{Vector}
-use Rattle.rules.specs.declared.answer.Refusal.{Refusal}
-use Rattle.rules.specs.declared.answer.Refusal.the-variants.{OutOfRange, NotYet, HistoryFull, LogFull}
-use Rattle.rules.specs.declared.event.Request.{Request}
-use Rattle.rules.specs.declared.event.Request.the-variants.{Read, Write}
-use Rattle.rules.specs.declared.state.State.{State}
-use Rattle.rules.specs.Writes.{winner}
-use Rattle.rules.specs.Phones.{withPhone}
-use Rattle.rules.specs.Memory.{Memory, memory, withState, withHistory, withImage, inCR, rwAt, rwWith, noReads, downOf, holding, noting, writes}
-use Rattle.rules.specs.Image.{logMost, checkpointCount, logCount}
-use Rattle.rules.specs.Stores.{Store, stored, writePlan, checkpointPlan}
-use Rattle.rules.specs.Answer.{Effect, valueReply, noNoteReply, writtenReply, replying, finished, unless}
-use Rattle.rules.specs.Refusals.{head, isDown, elsewhere}
+use Rattle.rules.specs.Answer.{Refusal, OutOfRange, NotYet, HistoryFull, LogFull, Effect, valueReply, noNoteReply, writtenReply, replying, finished, unless, head, isDown, elsewhere}
+use Rattle.rules.specs.Memory.{PhoneId, State, withPhone, Memory, memory, withState, withHistory, withImage, inCR, rwAt, rwWith, noReads, downOf, holding, noting, writes}
+use Rattle.rules.specs.Writes.{ServerId, Vector, Record, winner}
+use Rattle.rules.specs.Image.{logMost, checkpointCount, logCount, Store, stored, writePlan, checkpointPlan}
+pub use Rattle.rules.specs.declared.event.Request.{Request}
+pub use Rattle.rules.specs.declared.event.Request.the-variants.{Read, Write}
 
 -- ---- a write
 

@@ -9,13 +9,8 @@ use Rattle.notes.specs.Lists.{every, same}
 use Rattle.notes.specs.Vector.{at}
 use Rattle.notes.specs.Record.{wellFormed}
 use Rattle.notes.specs.Message.{historyMost}
-use Rattle.notes.specs.declared.index.PhoneId.{PhoneId}
-use Rattle.notes.specs.declared.index.ServerId.{ServerId}
-use Rattle.notes.specs.declared.record.Record.{Record}
-use Rattle.rules.specs.declared.state.State.{State}
-use Rattle.rules.specs.Writes.{writesOf, countOf, tally, inTurn, sameRecords}
-use Rattle.rules.specs.Phones.{phoneIds}
-use Rattle.rules.specs.Memory.{Memory, inCR, rwAt, writes}
+use Rattle.rules.specs.Memory.{PhoneId, State, phoneIds, Memory, inCR, rwAt, writes}
+use Rattle.rules.specs.Writes.{Record, ServerId, writesOf, countOf, tally, inTurn, sameRecords}
 use Rattle.rules.specs.Image.{headerOk, checkpoint, log}
 use Rattle.rules.specs.Recovery.{recovered, recoveredState}
 

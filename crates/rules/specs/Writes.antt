@@ -10,9 +10,9 @@ use Rattle.notes.specs.Lists.{every, same}
 use Rattle.notes.specs.Index.{servers}
 use Rattle.notes.specs.Vector.{vector}
 use Rattle.notes.specs.Record.{number, beats}
-use Rattle.notes.specs.declared.index.ServerId.{ServerId}
-use Rattle.notes.specs.declared.record.Record.{Record}
-use Rattle.notes.specs.declared.vector.Vector.{Vector}
+pub use Rattle.notes.specs.declared.index.ServerId.{ServerId}
+pub use Rattle.notes.specs.declared.vector.Vector.{Vector}
+pub use Rattle.notes.specs.declared.record.Record.{Record}
 
 -- those of a list that pass a test, in order
 abbrev pub keepIf : {A : Type 0} → Bool → A → List A → List A

@@ -11,7 +11,7 @@ use Rattle.notes.specs.declared.index.ServerId.{ServerId}
 use Rattle.rules.specs.declared.answer.Refusal.{Refusal}
 use Rattle.rules.specs.declared.answer.Refusal.the-variants.{OutOfRange}
 use Rattle.rules.specs.Memory.{Memory}
-use Rattle.rules.specs.Refusals.{head, elsewhere}
+use Rattle.rules.specs.Answer.{head, elsewhere}
 use Rattle.rules.specs.Step.{plainRefusals}
 
 module _ (m : Memory) (wrong : Bool) (j : ServerId) where

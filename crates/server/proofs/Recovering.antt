@@ -28,8 +28,7 @@ use Rattle.rules.specs.Recovery.{later, recovered, recoveredVector, recoveredSt
 use Rattle.rules.specs.Sound.{suits}
 use Rattle.rules.proofs.Places.{records-drop}
 use Rattle.rules.proofs.Writes.{writesOf-append, writesOf-all, writesOf-none, length-tally, at-tally, vectors-equal, same-server, raised-by}
-use Rattle.sound.specs.Tests.{added, downTest, logTest}
-use Rattle.sound.specs.Walk.{walkOf}
+use Rattle.sound.specs.Tests.{added, downTest, logTest, walkOf}
 use Rattle.sound.proofs.Same.{bytes-in}
 use Rattle.sound.proofs.Tested.{Limits, limits}
 use Rattle.sound.proofs.Down.{isOwn, down-test, tested-later, tested-run, tested-fits}

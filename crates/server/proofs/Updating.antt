@@ -20,19 +20,17 @@ use Rattle.notes.specs.declared.message.Checked.the-variants as checked
 use Rattle.notes.specs.declared.message.Header.{Header}
 use Rattle.notes.specs.declared.message.Refusal as notes
 use Rattle.notes.specs.declared.index.ServerId.{ServerId}
-use Rattle.notes.proofs.Answers.{update-right, refused-wrong}
+use Rattle.notes.proofs.Answers.{update-right, refused-wrong, first-append}
 use Rattle.notes.proofs.Lists.{both}
 use Rattle.notes.proofs.Messages.{right, right-n, right-suits, rest-of}
 use Rattle.rules.specs.declared.answer.Refusal.{Refusal}
 use Rattle.rules.specs.declared.answer.Refusal.the-variants.{OutOfRange, HistoryFull, Unsound}
 use Rattle.rules.specs.Memory.{Memory, memory, holding}
-use Rattle.rules.specs.Answer.{Effect, refusalReply, replying, finished, unless}
-use Rattle.rules.specs.Refusals.{head, isDown, elsewhere}
-use Rattle.rules.specs.Update.{Taken, takenFrom, updated, suitable, updateRefusals, update}
+use Rattle.rules.specs.Answer.{Effect, refusalReply, replying, finished, unless, head, isDown, elsewhere}
+use Rattle.rules.specs.Step.{Taken, takenFrom, updated, suitable, updateRefusals, update}
 use Rattle.rules.proofs.Passed.{Head, ungiven, head-known, head-right, head-rest}
 use Rattle.rules.proofs.Open.{opened}
 use Rattle.server.specs.Take.{originOk, ahead, arrivalRefusals}
-use Rattle.notes.proofs.Answers.{first-append}
 use Rattle.server.proofs.Taking.{formed-origins, taken-ahead}
 
 empty : {A : Type 0} (l : List A) → length l ≡ 0 → l ≡ []

@@ -8,17 +8,17 @@ use lib.Dec.{ltb, leb}
 use lib.ListN.{length}
 use Rattle.notes.specs.Reply.{given}
 use Rattle.notes.specs.Index.{servers}
-use Rattle.notes.specs.Vector.{at, raised}
-use Rattle.notes.specs.Record.{number}
 use Rattle.notes.specs.declared.index.ServerId.{ServerId}
-use Rattle.notes.specs.declared.record.Record.{Record}
+use Rattle.notes.specs.Vector.{at, raised}
 use Rattle.notes.specs.declared.vector.Vector.{Vector}
+use Rattle.notes.specs.Record.{number}
+use Rattle.notes.specs.declared.record.Record.{Record}
+use Rattle.rules.specs.Answer.{head, isDown, elsewhere}
 use Rattle.rules.specs.declared.answer.Refusal.{Refusal}
 use Rattle.rules.specs.declared.answer.Refusal.the-variants.{OutOfRange, Unsound}
 use Rattle.rules.specs.Memory.{Memory}
-use Rattle.rules.specs.Refusals.{head, isDown, elsewhere}
-use Rattle.rules.specs.Update.{Taken, suitable}
-use Rattle.sound.specs.Head.{headRefusal}
+use Rattle.rules.specs.Step.{Taken, suitable}
+use Rattle.sound.specs.Tests.{headRefusal}
 use Rattle.server.specs.declared.take.Takes.{Takes}
 
 -- a record's origin is one of the eight

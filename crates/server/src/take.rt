@@ -8,7 +8,7 @@ ghost use Rattle.notes.specs.Lists.{every};
 ghost use Rattle.notes.specs.Index.{servers};
 ghost use Rattle.notes.specs.Vector.{raised};
 ghost use Rattle.notes.specs.Record.{recordSize, decode, number, records, recordBytes};
-ghost use Rattle.rules.specs.Update.{taken};
+ghost use Rattle.rules.specs.Step.{taken};
 ghost use Rattle.server.specs.Take.{originOk, takesOf, seen, ahead};
 use notes::index::ServerId;
 use notes::raw;

@@ -9,8 +9,7 @@ use Rattle.rules.specs.declared.answer.Refusal.{Refusal}
 use Rattle.rules.specs.declared.answer.Refusal.the-variants.{NotUp, Unsound, TooShort}
 use Rattle.rules.specs.Memory.{Memory}
 use Rattle.rules.specs.Sound.{sound}
-use Rattle.rules.specs.Answer.{refusalReply, doneReply}
-use Rattle.rules.specs.Refusals.{short, judged, head}
+use Rattle.rules.specs.Answer.{refusalReply, doneReply, short, judged, head}
 use Rattle.rules.specs.Calls.{judge}
 
 module _ (m : Memory) where

@@ -29,7 +29,7 @@ use Rattle.rules.specs.Calls.{isWrite, orLater, placeOf, standsAt, bytesAt, loo
 use Rattle.rules.proofs.Places.{part-in, records-in}
 use Rattle.rules.proofs.Stores.{Shows, shows-server, shows-counts}
 use Rattle.rules.proofs.Passed.{ungiven}
-use Rattle.sound.specs.LookUp.{partAt, partOf}
+use Rattle.sound.specs.Tests.{partAt, partOf}
 
 module _ (o : ServerId) (n : ℕ) where
   -- the origin's byte decides, or else the number

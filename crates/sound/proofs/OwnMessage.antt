@@ -17,8 +17,7 @@ use Rattle.notes.proofs.Records.{length-records, length-recordBytes, eight-coun
 use Rattle.rules.specs.declared.answer.Refusal.{Refusal}
 use Rattle.rules.specs.declared.answer.Refusal.the-variants.{TooShort}
 use Rattle.rules.specs.Memory.{Memory, writes}
-use Rattle.rules.specs.Answer.{refusalReply}
-use Rattle.rules.specs.Refusals.{head, isDown}
+use Rattle.rules.specs.Answer.{refusalReply, head, isDown}
 use Rattle.rules.specs.Calls.{ownMessage, message}
 use Rattle.rules.proofs.Passed.{Head, head-known, head-right}
 use Rattle.rules.proofs.Open.{opened}

@@ -7,7 +7,7 @@ use borrow.Author.Tests.{lt-ltb, le-ltb}
 use lib.ListN.{length}
 use Rattle.rules.specs.Memory.{Memory}
 use Rattle.rules.specs.Image.{historySize, imageSize}
-use Rattle.rules.specs.Refusals.{short}
+use Rattle.rules.specs.Answer.{short}
 
 module _ (m : Memory) where
   pub short-history : length (m .history) < historySize → short m ≡ true

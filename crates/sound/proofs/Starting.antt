@@ -11,8 +11,7 @@ use Rattle.notes.specs.declared.index.ServerId.{ServerId}
 use Rattle.rules.specs.declared.answer.Refusal.the-variants.{OutOfRange, TooShort}
 use Rattle.rules.specs.Image.{historySize, imageSize, freshImage}
 use Rattle.rules.specs.Memory.{memory, blank}
-use Rattle.rules.specs.Answer.{refusalReply, replying, finished}
-use Rattle.rules.specs.Refusals.{short}
+use Rattle.rules.specs.Answer.{refusalReply, replying, finished, short}
 use Rattle.rules.specs.Calls.{fresh, noServer, start}
 
 module _ (n : ℕ) (own : ServerId) (h i : List ℕ) where

@@ -12,8 +12,7 @@ use Rattle.notes.specs.Index.{phones}
 use Rattle.notes.proofs.Lists.{every-more}
 use Rattle.rules.specs.declared.state.State.{State}
 use Rattle.rules.specs.Writes.{counting}
-use Rattle.rules.specs.Phones.{phone, phoneIds, inSet}
-use Rattle.rules.specs.Memory.{rwAt}
+use Rattle.rules.specs.Memory.{phone, phoneIds, inSet, rwAt}
 use Rattle.rules.specs.Sound.{rwOk, readsOk}
 use Rattle.rules.proofs.Lists.{length-counting, counting-at, map-at}
 

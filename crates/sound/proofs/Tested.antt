@@ -31,8 +31,7 @@ use Rattle.rules.specs.Sound.{vCounts, isFirst, isLast, readsOk, isZero, suits,
 use Rattle.rules.proofs.Places.{part-in, records-take, records-drop}
 use Rattle.rules.proofs.Writes.{at-tally, countOf-few}
 use Rattle.sound.specs.declared.raw.Tally.{Tally}
-use Rattle.sound.specs.Tests.{tail, historyTest, imageTest, upTest, ownRun, newest, added, logTest, downTest}
-use Rattle.sound.specs.Walk.{walkOf}
+use Rattle.sound.specs.Tests.{tail, historyTest, imageTest, upTest, ownRun, newest, added, logTest, downTest, walkOf}
 use Rattle.sound.proofs.Same.{records-same}
 use Rattle.sound.proofs.Header.{numbers}
 use Rattle.sound.proofs.Up.{up-test}

@@ -10,8 +10,7 @@ use Rattle.notes.proofs.Unique.{One}
 use Rattle.rules.specs.declared.answer.Message.{Message}
 use Rattle.rules.specs.declared.answer.Outcome.{Outcome}
 use Rattle.rules.specs.declared.answer.Refusal.{Refusal}
-use Rattle.sound.specs.Head.{headRefusal}
-use Rattle.sound.specs.LookUp.{foundReply}
+use Rattle.sound.specs.Tests.{headRefusal, foundReply}
 use Rattle.sound.specs.declared.head.Head.{Head}
 use Rattle.sound.specs.declared.head.Head.the-variants.{Passed, Refused}
 use Rattle.sound.specs.declared.look_up.Found.{Found}

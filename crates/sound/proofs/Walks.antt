@@ -22,7 +22,7 @@ use Rattle.rules.proofs.Writes.{InTurn, in-turn, turn-in, turn-more, turn-first
 use Rattle.rules.proofs.Lists.{counting-at}
 use Rattle.rules.proofs.Stamps.{at-few}
 use Rattle.rules.proofs.Sound.{formed-origin}
-use Rattle.sound.specs.Walk.{walkOf}
+use Rattle.sound.specs.Tests.{walkOf}
 use Rattle.sound.specs.declared.raw.Tally.{Tally}
 
 -- in a list in turn the last write's number is the next of its origin

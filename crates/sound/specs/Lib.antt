@@ -1,4 +1,1 @@
-pub mod Head
-pub mod LookUp
 pub mod Tests
-pub mod Walk

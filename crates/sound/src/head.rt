@@ -2,8 +2,8 @@
 ghost use mathlib.Core.Path.{_≡_};
 ghost use Rattle.notes.specs.Reply.{first};
 ghost use Rattle.rules.specs.Memory.{memory};
-ghost use Rattle.rules.specs.Refusals.{judged, head, isDown};
-ghost use Rattle.sound.specs.Head.{headRefusal};
+ghost use Rattle.rules.specs.Answer.{judged, head, isDown};
+ghost use Rattle.sound.specs.Tests.{headRefusal};
 use crate::image::Image;
 use crate::sound;
 use rules::answer::Refusal;

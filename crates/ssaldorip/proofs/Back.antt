@@ -17,8 +17,7 @@ use Rattle.notes.proofs.Lists.{both, part-join, parts-join}
 use Rattle.notes.proofs.Numbers.{AllBelow, below-take, below-drop, one-byte, from-to, to-from, length-toBytes, part-back, byte-join}
 use Rattle.notes.proofs.Vectors.{length-vectorBytes, length-vectorFrom}
 use Rattle.rules.specs.declared.state.State.{State}
-use Rattle.ssaldorip.specs.Block.{blockSize, upField, spareField, vectorAt, crField, rwAt, blockOk, stateIn, stateOf, blockOf}
-use Rattle.ssaldorip.specs.Calls.{onto}
+use Rattle.ssaldorip.specs.Calls.{blockSize, upField, spareField, vectorAt, crField, rwAt, blockOk, stateIn, stateOf, blockOf, onto}
 use Rattle.ssaldorip.proofs.Words.{words, length-words}
 use Rattle.ssaldorip.proofs.Stored.{length-blockOf}
 

@@ -17,8 +17,7 @@ use Rattle.rules.specs.Memory.{Memory}
 use Rattle.rules.specs.Writes.{server}
 use Rattle.rules.proofs.Outcomes.{refused-same}
 use Rattle.rules.proofs.Passed.{unless-either}
-use Rattle.ssaldorip.specs.Block.{blockSize, blockOf}
-use Rattle.ssaldorip.specs.Calls.{vectorSize, Lent, Called, lent, called, onto, leaves, memoryOf, call, happening, noReply}
+use Rattle.ssaldorip.specs.Calls.{blockSize, blockOf, vectorSize, Lent, Called, lent, called, onto, leaves, memoryOf, call, happening, noReply}
 
 module _ (v size : ℕ) (f : Memory → Effect) (bytes : Effect → List ℕ) (l : Lent) where
   abbrev e : Effect

@@ -12,8 +12,7 @@ use Rattle.rules.specs.Answer.{refusalNumber, statusReply}
 use Rattle.rules.specs.Calls.{status}
 use Rattle.rules.specs.Memory.{Memory}
 use Rattle.rules.proofs.Outcomes.{refusal-number}
-use Rattle.ssaldorip.specs.Block.{blockSize}
-use Rattle.ssaldorip.specs.Calls.{Lent, left, put, fills, statusIn, memoryOf}
+use Rattle.ssaldorip.specs.Calls.{blockSize, Lent, left, put, fills, statusIn, memoryOf}
 
 module _ (f : Memory → List ℕ → ℕ × List ℕ) (l : Lent) where
   pub fills-short : length (l .state) < blockSize → left 9 (l .reply) ≡ fills f l

@@ -33,8 +33,7 @@ use Rattle.rules.specs.Step.{step}
 use Rattle.rules.specs.Writes.{server, winner}
 use Rattle.rules.proofs.Outcomes.{refusal-number, served-number}
 use Rattle.rules.proofs.One.{happens-eight}
-use Rattle.ssaldorip.specs.Block.{blockSize}
-use Rattle.ssaldorip.specs.Calls.{vectorSize, readSize, Lent, called, onto, memoryOf, call, happening, readBytes, orShort}
+use Rattle.ssaldorip.specs.Calls.{blockSize, vectorSize, readSize, Lent, called, onto, memoryOf, call, happening, readBytes, orShort}
 use Rattle.ssaldorip.proofs.Called.{call-refused, call-short}
 
 -- a call whose reply has no room

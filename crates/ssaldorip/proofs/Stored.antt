@@ -17,7 +17,7 @@ use Rattle.notes.proofs.Pieces.{each-of, length-flatMap}
 use Rattle.notes.proofs.Vectors.{length-vectorBytes}
 use Rattle.rules.specs.declared.state.State.{State}
 use Rattle.rules.specs.Image.{nField, ownField}
-use Rattle.ssaldorip.specs.Block.{blockSize, upField, spareField, heldField, nwritesField, vectorAt, crField, rwAt, blockOf}
+use Rattle.ssaldorip.specs.Calls.{blockSize, upField, spareField, heldField, nwritesField, vectorAt, crField, rwAt, blockOf}
 
 -- ---- a number's lower bytes, and its upper ones
 

@@ -11,8 +11,7 @@ use Rattle.notes.specs.Message.{filled}
 use Rattle.notes.specs.declared.message.Refusal.the-variants.{TooShort}
 use Rattle.notes.specs.declared.message.Written.the-variants.{Bytes, Refused}
 use Rattle.notes.proofs.Answers.{filled-within}
-use Rattle.text.specs.Text.{spaced, Stored}
-use Rattle.text.specs.Line.{named, namedRoom, line}
+use Rattle.text.specs.Text.{spaced, Stored, named, namedRoom, line}
 use Rattle.text.proofs.Decimals.{length-spaced}
 use Rattle.text.proofs.Texts.{each-room, fill-short, fill-done}
 

@@ -8,9 +8,9 @@ use lib.ListN.{length, take}
 use Rattle.notes.specs.Reply.{Filled, given}
 use Rattle.notes.specs.Index.{servers}
 use Rattle.notes.specs.Record.{number}
+use Rattle.notes.specs.declared.record.Record.{Record}
 use Rattle.notes.specs.Message.{historyMost, messageN, messageSender, brought, messageOk, fillUnless}
 use Rattle.notes.specs.declared.message.Refusal.the-variants.{TooShort}
-use Rattle.notes.specs.declared.record.Record.{Record}
 use Rattle.text.specs.Text.{text, digitsMost, decimal, spaced}
 
 -- numbers in a line, with a space between any two

@@ -2,7 +2,7 @@
 ghost use mathlib.Core.Path.{_≡_};
 ghost use lib.Dec.{leb};
 ghost use Rattle.notes.specs.Message.{filled};
-ghost use Rattle.text.specs.Line.{namedRoom, line as lineOf};
+ghost use Rattle.text.specs.Text.{namedRoom, line as lineOf};
 use crate::print::DIGITS;
 use crate::print::put_all_spaced;
 use crate::print::put_text;

@@ -3,9 +3,9 @@
 use mathlib.Core.List.{[]}
 use mathlib.Core.Path.{sym, ap, _∙_}
 use Rattle.rules.specs.Memory.{memory}
-use Rattle.rules.specs.Refusals.{isDown}
+use Rattle.rules.specs.Answer.{isDown}
 use Rattle.rules.proofs.Passed.{head-known}
-use Rattle.sound.specs.Head.{headRefusal}
+use Rattle.sound.specs.Tests.{headRefusal}
 use Rattle.requests.proofs.Admitting.{request-refused, request-out, request-behind, request-full}
 use borrow.Author.Needs.{needs}
 use Rattle.requests.proofs.admit.request_head.Statement.{statement}

@@ -1,7 +1,7 @@
 -- `read::is_in` meets its contract.
 -- Assumes nothing.
 use mathlib.Core.Path.{refl}
-use Rattle.rules.specs.Phones.{inSet}
+use Rattle.rules.specs.Memory.{inSet}
 use borrow.Author.Needs.{needs}
 use Rattle.requests.proofs.read.is_in.Statement.{statement}
 use Rattle.requests.proofs.read.is_in.Tie as tie

@@ -6,7 +6,7 @@ use native.Mathlib.Omega.{arith}
 use lib.Bits.{bitOr}
 use lib.Dec.{lit<}
 use lib.Pow.{shl-exact}
-use Rattle.rules.specs.Phones.{withPhone}
+use Rattle.rules.specs.Memory.{withPhone}
 use borrow.Author.Needs.{needs}
 use Rattle.requests.proofs.read.with_phone.Statement.{statement}
 use Rattle.requests.proofs.read.with_phone.Tie as tie

@@ -4,7 +4,7 @@ use mathlib.Core.Path.{sym, ap, _∙_}
 use Rattle.rules.specs.Memory.{memory}
 use Rattle.rules.specs.Request.{isWrite, served, request}
 use Rattle.rules.proofs.Passed.{asked}
-use Rattle.sound.specs.Head.{headRefusal}
+use Rattle.sound.specs.Tests.{headRefusal}
 use borrow.Author.Needs.{needs}
 use Rattle.requests.proofs.request.request.Statement.{statement}
 use Rattle.requests.proofs.request.request.Tie as tie

@@ -6,7 +6,7 @@ use Rattle.rules.specs.declared.event.Request.{Request}
 use Rattle.rules.specs.Memory.{memory}
 use Rattle.rules.specs.Request.{isWrite, cutAfter, requestCut}
 use Rattle.rules.proofs.Passed.{asked}
-use Rattle.sound.specs.Head.{headRefusal}
+use Rattle.sound.specs.Tests.{headRefusal}
 use Rattle.requests.proofs.Admitting.{cut-refused, cut-over, cut-passed}
 use borrow.Author.Needs.{needs}
 use Rattle.requests.proofs.request.request_cut.Statement.{statement}

@@ -2,9 +2,9 @@
 -- Assumes nothing.
 use mathlib.Core.Path.{sym, ap, _∙_}
 use Rattle.rules.specs.Memory.{memory}
-use Rattle.rules.specs.Refusals.{isDown}
+use Rattle.rules.specs.Answer.{isDown}
 use Rattle.rules.specs.Step.{cut}
-use Rattle.sound.specs.Head.{headRefusal}
+use Rattle.sound.specs.Tests.{headRefusal}
 use Rattle.server.proofs.Plain.{plain-refused, plain-elsewhere, plain-passed}
 use borrow.Author.Needs.{needs}
 use Rattle.server.proofs.cut.cut.Statement.{statement}

@@ -6,7 +6,7 @@ use native.Mathlib.Nat.{add-sub-cancel-left}
 use native.Mathlib.Omega.{arith}
 use lib.ListN.{length-take, length-drop}
 use Rattle.notes.specs.Record.{records}
-use Rattle.rules.specs.Update.{taken}
+use Rattle.rules.specs.Step.{taken}
 use Rattle.server.specs.Take.{seen}
 use Rattle.sound.proofs.Walks.{part-origin}
 use Rattle.server.proofs.Taking.{seenBehind, left, origin-listed, none-taken, all-taken, skips-at, own-at, gap-at, appends-at}

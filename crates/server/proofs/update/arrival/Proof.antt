@@ -3,7 +3,7 @@
 use mathlib.Core.Path.{sym, ap, _∙_}
 use borrow.Author.Tests.{not-true, not-false}
 use Rattle.rules.specs.Memory.{memory}
-use Rattle.sound.specs.Head.{headRefusal}
+use Rattle.sound.specs.Tests.{headRefusal}
 use Rattle.server.proofs.Updating.{arrival-refused, arrival-elsewhere, arrival-unsuited, arrival-passed}
 use borrow.Author.Needs.{needs}
 use Rattle.server.proofs.update.arrival.Statement.{statement}

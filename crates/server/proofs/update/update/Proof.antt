@@ -8,8 +8,8 @@ use lib.ListN.{length}
 use Rattle.notes.specs.Message.{headerSize, historyMost, brought}
 use Rattle.notes.specs.Reply.{first}
 use Rattle.rules.specs.Memory.{Memory, memory}
-use Rattle.rules.specs.Update.{Taken, takenFrom}
-use Rattle.sound.specs.Head.{headRefusal}
+use Rattle.rules.specs.Step.{Taken, takenFrom}
+use Rattle.sound.specs.Tests.{headRefusal}
 use Rattle.server.specs.Take.{Seen, takesOf, seen, arrivalRefusals}
 use Rattle.server.proofs.Taking.{taken-ahead}
 use Rattle.server.proofs.Updating.{brought-at, length-brought, arrived-head, arrived-few, arrived-long, arrived-origins, update-refused, update-stopped, update-full, update-done, update-same}

@@ -2,7 +2,7 @@
 -- Assumes nothing.
 use mathlib.Core.Path.{sym, ap, _∙_}
 use Rattle.rules.specs.Memory.{memory}
-use Rattle.sound.specs.Head.{headRefusal}
+use Rattle.sound.specs.Tests.{headRefusal}
 use Rattle.sound.proofs.Heads.{head-refused, head-goes-on}
 use borrow.Author.Needs.{needs}
 use Rattle.sound.proofs.head.down_head.Statement.{statement}

@@ -2,8 +2,8 @@
 -- Assumes nothing.
 use mathlib.Core.Path.{sym, ap, _∙_}
 use Rattle.rules.specs.Memory.{memory}
-use Rattle.rules.specs.Refusals.{isDown}
-use Rattle.sound.specs.Head.{headRefusal}
+use Rattle.rules.specs.Answer.{isDown}
+use Rattle.sound.specs.Tests.{headRefusal}
 use Rattle.sound.proofs.Heads.{head-refused, head-goes-on}
 use borrow.Author.Needs.{needs}
 use Rattle.sound.proofs.head.up_head.Statement.{statement}

@@ -2,7 +2,7 @@
 -- Assumes nothing.
 use mathlib.Core.Path.{sym, ap, _∙_}
 use Rattle.rules.specs.Memory.{memory}
-use Rattle.sound.specs.Head.{headRefusal}
+use Rattle.sound.specs.Tests.{headRefusal}
 use Rattle.sound.proofs.Heads.{judge-refused, judge-passed}
 use borrow.Author.Needs.{needs}
 use Rattle.sound.proofs.judge.judge.Statement.{statement}

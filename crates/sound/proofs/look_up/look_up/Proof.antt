@@ -4,7 +4,7 @@ use mathlib.Core.Path.{sym, ap, _∙_}
 use native.Mathlib.Omega.{arith}
 use lib.ListN.{length-take, length-drop}
 use Rattle.rules.specs.Calls.{lookUp}
-use Rattle.sound.specs.Head.{headRefusal}
+use Rattle.sound.specs.Tests.{headRefusal}
 use Rattle.sound.proofs.LookUp.{Accepted, accepted, part-of-parts}
 use borrow.Author.Needs.{needs}
 use Rattle.sound.proofs.look_up.look_up.Statement.{statement}

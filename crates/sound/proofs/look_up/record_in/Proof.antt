@@ -7,7 +7,7 @@ use native.Mathlib.Nat.{add-sub-cancel-left}
 use native.Mathlib.Omega.{arith}
 use Rattle.notes.specs.Record.{records}
 use Rattle.rules.specs.Calls.{placeOf}
-use Rattle.sound.specs.LookUp.{placed, partOf}
+use Rattle.sound.specs.Tests.{placed, partOf}
 use Rattle.sound.proofs.LookUp.{place-among}
 use borrow.Author.Needs.{needs}
 use Rattle.sound.proofs.look_up.record_in.Statement.{statement}

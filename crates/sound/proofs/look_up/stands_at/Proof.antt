@@ -8,8 +8,7 @@ use lib.ListN.{length-take, length-drop}
 use Rattle.notes.specs.Message.{historyMost}
 use Rattle.rules.specs.Calls.{placeOf, standsAt, lookUpRefusal}
 use Rattle.rules.specs.Image.{checkpoint, log, logMost}
-use Rattle.sound.specs.Head.{headRefusal}
-use Rattle.sound.specs.LookUp.{placed}
+use Rattle.sound.specs.Tests.{headRefusal, placed}
 use Rattle.sound.proofs.LookUp.{Accepted, accepted, kept-place, logged-place, place-among}
 use borrow.Author.Needs.{needs}
 use Rattle.sound.proofs.look_up.stands_at.Statement.{statement}

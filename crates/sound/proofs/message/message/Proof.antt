@@ -5,8 +5,8 @@ use mathlib.Core.Path.{_≡_, sym, ap, _∙_}
 use native.Mathlib.Omega.{arith}
 use Rattle.notes.specs.Reply.{first}
 use Rattle.rules.specs.Memory.{Memory, memory}
-use Rattle.rules.specs.Refusals.{head, isDown}
-use Rattle.sound.specs.Head.{headRefusal}
+use Rattle.rules.specs.Answer.{head, isDown}
+use Rattle.sound.specs.Tests.{headRefusal}
 use Rattle.sound.proofs.OwnMessage.{held-few, length-bytes, message-refused, message-short, message-filled}
 use borrow.Author.Needs.{needs}
 use Rattle.sound.proofs.message.message.Statement.{statement}

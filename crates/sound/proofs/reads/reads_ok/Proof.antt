@@ -6,7 +6,7 @@ use native.Mathlib.Nat.{div-one}
 use lib.ListN.{take}
 use lib.Pow.{shr-shr}
 use Rattle.notes.specs.Lists.{every}
-use Rattle.rules.specs.Phones.{phoneIds}
+use Rattle.rules.specs.Memory.{phoneIds}
 use Rattle.rules.specs.Sound.{rwOk}
 use Rattle.sound.proofs.Tables.{reads-more, reads-all}
 use borrow.Author.Needs.{needs}

@@ -3,7 +3,7 @@
 use mathlib.Core.Bool.{false}
 use mathlib.Core.Path.{_≡_, sym, _∙_}
 use borrow.Author.Tests.{not-true, not-false}
-use Rattle.rules.specs.Refusals.{short}
+use Rattle.rules.specs.Answer.{short}
 use Rattle.rules.specs.Calls.{noServer}
 use Rattle.sound.proofs.Short.{short-history, short-image, long-enough}
 use Rattle.sound.proofs.Starting.{start-9, start-1, start-done}

@@ -2,7 +2,7 @@
 -- Assumes nothing.
 use borrow.Author.Tests.{lt-leb, le-leb}
 use Rattle.notes.proofs.Numbers.{from-one}
-use Rattle.ssaldorip.specs.Block.{blockOk}
+use Rattle.ssaldorip.specs.Calls.{blockOk}
 use borrow.Author.Needs.{needs}
 use Rattle.ssaldorip.proofs.block.block_ok.Statement.{statement}
 use Rattle.ssaldorip.proofs.block.block_ok.Tie as tie

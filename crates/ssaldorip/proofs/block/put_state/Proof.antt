@@ -7,7 +7,7 @@ use native.Mathlib.Omega.{arith}
 use lib.ListN.{length, drop}
 use Rattle.notes.specs.Index.{servers, phones}
 use Rattle.ssaldorip.proofs.Stored.{length-blockOf, state-stored}
-use Rattle.ssaldorip.specs.Block.{blockOf}
+use Rattle.ssaldorip.specs.Calls.{blockOf}
 use borrow.Author.Needs.{needs}
 use Rattle.ssaldorip.proofs.block.put_state.Statement.{statement}
 use Rattle.ssaldorip.proofs.block.put_state.Tie as tie

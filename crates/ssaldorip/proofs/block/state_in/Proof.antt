@@ -4,7 +4,7 @@ use Prim.Native.Nat.{ℕ}
 use mathlib.Core.Path.{sym, ap}
 use lib.Dec.{eqb}
 use Rattle.notes.proofs.Numbers.{from-one}
-use Rattle.ssaldorip.specs.Block.{stateIn}
+use Rattle.ssaldorip.specs.Calls.{stateIn}
 use borrow.Author.Needs.{needs}
 use Rattle.ssaldorip.proofs.block.state_in.Statement.{statement}
 use Rattle.ssaldorip.proofs.block.state_in.Tie as tie

@@ -2,7 +2,7 @@
 -- Assumes nothing.
 use mathlib.Core.Path.{sym, _∙_}
 use borrow.Author.Tests.{not-true, not-false}
-use Rattle.ssaldorip.specs.Block.{stateOf}
+use Rattle.ssaldorip.specs.Calls.{stateOf}
 use borrow.Author.Needs.{needs}
 use Rattle.ssaldorip.proofs.block.state_of.Statement.{statement}
 use Rattle.ssaldorip.proofs.block.state_of.Tie as tie

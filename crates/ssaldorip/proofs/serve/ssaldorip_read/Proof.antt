@@ -10,8 +10,7 @@ use Rattle.rules.specs.declared.event.Request.the-variants.{Read}
 use Rattle.rules.specs.declared.event.What.the-variants as what
 use Rattle.rules.specs.declared.state.State.{State}
 use Rattle.rules.specs.Answer.{Effect, effectOf}
-use Rattle.rules.specs.Memory.{memory}
-use Rattle.rules.specs.Phones.{phone}
+use Rattle.rules.specs.Memory.{memory, phone}
 use Rattle.rules.specs.Request.{request}
 use Rattle.rules.specs.Step.{step}
 use Rattle.rules.specs.Writes.{server}

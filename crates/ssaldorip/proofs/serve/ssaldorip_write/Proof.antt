@@ -8,8 +8,7 @@ use Rattle.rules.specs.declared.event.Request.the-variants.{Write}
 use Rattle.rules.specs.declared.event.What.the-variants as what
 use Rattle.rules.specs.declared.state.State.{State}
 use Rattle.rules.specs.Answer.{Effect, effectOf}
-use Rattle.rules.specs.Memory.{memory}
-use Rattle.rules.specs.Phones.{phone}
+use Rattle.rules.specs.Memory.{memory, phone}
 use Rattle.rules.specs.Request.{request}
 use Rattle.rules.specs.Step.{step}
 use Rattle.rules.specs.Writes.{server}

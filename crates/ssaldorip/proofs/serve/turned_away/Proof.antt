@@ -2,8 +2,8 @@
 -- Assumes nothing.
 use mathlib.Core.Path.{ap, sym, _∙_}
 use Rattle.notes.specs.Vector.{vectorFrom}
-use Rattle.rules.specs.Phones.{phone}
-use Rattle.sound.specs.Head.{headRefusal}
+use Rattle.rules.specs.Memory.{phone}
+use Rattle.sound.specs.Tests.{headRefusal}
 use Rattle.ssaldorip.specs.Calls.{lent, memoryOf}
 use Rattle.ssaldorip.proofs.Requested.{away-refused, away-short}
 use mathlib.Core.List.{[]}

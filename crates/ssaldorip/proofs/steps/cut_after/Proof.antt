@@ -4,7 +4,7 @@ use mathlib.Core.List.{[]}
 use mathlib.Core.Path.{ap, _∙_}
 use Rattle.notes.specs.Vector.{vectorFrom}
 use Rattle.notes.specs.declared.vector.Vector.{Vector}
-use Rattle.rules.specs.Phones.{phone}
+use Rattle.rules.specs.Memory.{phone}
 use Rattle.rules.specs.declared.event.What.the-variants as what
 use Rattle.ssaldorip.specs.Calls.{vectorSize, lent, call, happening, noReply}
 use Rattle.ssaldorip.proofs.Called.{short-vector, vector-enough}

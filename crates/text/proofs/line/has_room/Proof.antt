@@ -3,7 +3,7 @@
 use Prim.Native.Nat.{_<_, _≤_}
 use mathlib.Core.Path.{sym}
 use native.Mathlib.Omega.{arith}
-use Rattle.text.specs.Line.{namedRoom}
+use Rattle.text.specs.Text.{namedRoom}
 use borrow.Author.Tests.{le-leb, lt-leb}
 use borrow.Author.Needs.{needs}
 use Rattle.text.proofs.line.has_room.Statement.{statement}

@@ -5,7 +5,7 @@ use mathlib.Core.Path.{sym, _∙_}
 use native.Mathlib.Omega.{arith}
 use borrow.Author.Tests.{leb-true, leb-false, not-true, not-false}
 use lib.ListN.{length}
-use Rattle.text.specs.Line.{namedRoom}
+use Rattle.text.specs.Text.{namedRoom}
 use Rattle.text.proofs.Named.{numbers-room, line-short, line-done}
 use Rattle.text.proofs.Texts.{then, same-room}
 use borrow.Author.Needs.{needs}

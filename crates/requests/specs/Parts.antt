@@ -1,15 +1,20 @@
--- A cell's winner as a walk finds it: the best record so far by its place, and the winner's value.
+-- A request in the forms that its parts need: a write's stores over its record's bytes, a cell's winner as a walk finds it.
 -- Assumes nothing.
-use Prim.Native.Nat.{ℕ, _*_}
+use Prim.Native.Nat.{ℕ, _+_, _*_}
+use mathlib.Core.List.{List, [], _∷_, _++_}
 use mathlib.Core.Bool.{cond}
-use mathlib.Core.List.{List}
 use mathlib.Core.Option.{Option, none, some, Option·map}
 use lib.Dec.{ltb, eqb}
 use lib.ListN.{take, drop}
 use Rattle.notes.specs.Record.{recordSize, decode}
 use Rattle.notes.specs.declared.record.Record.{Record}
+use Rattle.rules.specs.Image.{logField, logPlace, Store, count, byteStores}
 use Rattle.rules.specs.Writes.{better}
 use Rattle.requests.specs.declared.winner.Won.{Won}
+
+-- `writePlan` of the record with these bytes
+unfoldable pub writeBytesPlan : List ℕ → ℕ → List Store
+writeBytesPlan b logged = byteStores (logPlace logged) b ++ count logField (logged + 1) ∷ []
 
 abbrev pub winnerOf : Won → Option ℕ
 winnerOf w = cond (w .some) (some (w .value)) none
