@@ -7,4 +7,5 @@ pub mod Messages
 pub mod Round
 pub mod Answers
 pub mod Reading
+pub mod InPlace
 pub mod Unique

@@ -1,9 +1,14 @@
 -- Any two outcomes that meet a public call's statement are equal: a theorem for each call, about the very clauses of its contract.
 -- Assumes nothing.
-use mathlib.Core.Path.{_≡_, sym, ap, _∙_}
+use mathlib.Core.Path.{_≡_, refl, sym, ap, _∙_}
 use mathlib.Core.List.{List}
 use Prim.Native.Nat.{ℕ}
+use contract.Lifetimes.{Lfts}
+use borrow.Fn.Claims.{AllOf}
+use borrow.Fn.Read.{Read, r-last, no-know, all-models}
+use borrow.Fn.World.{World, Pr, ArgsD, ResD, In}
 use denote.Ref.{now}
+use denote.Triple.Clauses.{Ended, AtExit}
 use Rattle.notes.specs.Reply.{Filled}
 use Rattle.notes.specs.Message.{filled}
 use Rattle.notes.specs.declared.message.Written.{Written}
@@ -29,6 +34,10 @@ use Rattle.notes.proofs.session.Session.read_carries.Reads as read-carr
 use Rattle.notes.proofs.session.Session.write_carries.Reads as write-carries
 use Rattle.notes.proofs.session.Session.after_read.Reads as after-read
 use Rattle.notes.proofs.session.Session.after_write.Reads as after-write
+use Rattle.notes.proofs.session.Session.raise as raise
+use Rattle.notes.proofs.session.Session.keep as keep
+use Rattle.notes.proofs.session.Session.carried as carried
+use Rattle.notes.proofs.session.raised_by.Reads as raised-by
 
 -- for the same lifetimes and arguments, `seen` of the result and of the parameters at exit is one
 abbrev pub One {ℓ κ μ ν} :
@@ -96,6 +105,9 @@ after-read-one k a x y s t p q = equal p q
 pub after-write-one : One after-write.Post (λ k r s. r)
 after-write-one k a x y s t p q = equal p q
 
+pub raised-by-one : One raised-by.Post (λ k r s. r)
+raised-by-one k a x y s t p q = equal p q
+
 -- a check is known by its number and values
 pub check-one : One check.Post (λ k r s. r)
 check-one k a x y s t p q = checked-known x y (equal p q)
@@ -111,3 +123,29 @@ filled-one x y o u e =
 
 pub write-one : One {O = Written × List ℕ} write.Post (λ k r s. (r, now (s .1 .1 .1 .0)))
 write-one k a x y s t p q = filled-one x y _ _ (equal p q)
+
+-- ---- calls that take the session by reference: no `Reads` is made of them, so what they ensure is read here, in the same way
+abbrev Ensures : Ended → Type 2
+Ensures T = (k : Lfts (T .signature .lifetimes)) → ArgsD (T .signature) k → ResD (T .signature) k → AtExit T k → (w : World) → Pr w
+
+abbrev Reading : (T : Ended) → Ensures T → Type 2
+Reading T e = (k : Lfts (T .signature .lifetimes)) (a : ArgsD (T .signature) k) (r : ResD (T .signature) k) (s : AtExit T k) → Read (In (T .signature) k a) no-know (e k a r s)
+
+abbrev raise-reads : Reading raise.ended (λ k a r s w. raise.clauses (w .𝓤) (w .H) (w .𝓖 .A) (w .𝓜 .mem) (w .𝓡 .run) k a .ensures tt r s)
+raise-reads k a r s = all-models _ (λ w. r-last _) (λ w. refl) (λ w. refl) (λ w. refl)
+
+abbrev keep-reads : Reading keep.ended (λ k a r s w. keep.clauses (w .𝓤) (w .H) (w .𝓖 .A) (w .𝓜 .mem) (w .𝓡 .run) k a .ensures tt r s)
+keep-reads k a r s = all-models _ (λ w. r-last _) (λ w. refl) (λ w. refl) (λ w. refl)
+
+abbrev carried-reads : Reading carried.ended (λ k a r s w. carried.clauses (w .𝓤) (w .H) (w .𝓖 .A) (w .𝓜 .mem) (w .𝓡 .run) k a .ensures tt r s)
+carried-reads k a r s = all-models _ (λ w. r-last _) (λ w. refl) (λ w. refl) (λ w. refl)
+
+-- a session changed in place is known by its value at exit
+pub raise-one : One (λ k a r s. AllOf (raise-reads k a r s .owes)) (λ k r s. now (s .0))
+raise-one k a x y s t p q = equal p q
+
+pub keep-one : One (λ k a r s. AllOf (keep-reads k a r s .owes)) (λ k r s. now (s .0))
+keep-one k a x y s t p q = equal p q
+
+pub carried-one : One (λ k a r s. AllOf (carried-reads k a r s .owes)) (λ k r s. r)
+carried-one k a x y s t p q = equal p q

@@ -45,4 +45,34 @@ impl Session {
     {
         self
     }
+
+    // A read's reply raises the session in place; a write's leaves it.
+    pub fn raise(&mut self, reply: Vector)
+        ensures { λ _. ⌜ now (self .exit) ≡ afterRead (now (self .entry)) reply ⌝ }
+    {
+        *self = self.after_read(reply);
+    }
+
+    pub fn keep(&mut self, reply: Vector)
+        ensures { λ _. ⌜ now (self .exit) ≡ afterWrite (now (self .entry)) reply ⌝ }
+    {
+        *self = self.after_write(reply);
+    }
+
+    // What the next read's request carries.
+    pub fn carried(&self) -> Vector
+        ensures { λ r. ⌜ r ≡ readCarries (now (self .entry)) ⌝ }
+    {
+        self.read_carries()
+    }
+}
+
+// The session after a read's reply, for whoever holds it by value: it lies in a local and is raised there. Its contract says
+// nothing of a reference, so callers need no walk by hand.
+pub fn raised_by(s: Session, reply: Vector) -> Session
+    ensures { λ r. ⌜ r ≡ afterRead s reply ⌝ }
+{
+    let mut t = s;
+    t.raise(reply);
+    t
 }
