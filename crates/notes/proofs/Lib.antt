@@ -7,5 +7,6 @@ pub mod Messages
 pub mod Round
 pub mod Answers
 pub mod Reading
+pub mod Sessions
 pub mod InPlace
 pub mod Unique

@@ -9,16 +9,18 @@ use borrow.Author.Tests.{lt-ltb, le-ltb}
 use lib.ListN.{length, getD}
 use lib.Seq.{sets}
 use Rattle.notes.specs.Reply.{Reply, done, orElse}
-use Rattle.notes.specs.Vector.{maximum, vectorFrom, vectorBytes}
+use Rattle.notes.specs.Vector.{vectorFrom, vectorBytes}
+use Rattle.notes.specs.Session.{afterRead}
 use Rattle.notes.specs.declared.index.ServerId.{ServerId}
 use Rattle.notes.proofs.Lists.{sets-front}
-use Rattle.notes.proofs.Vectors.{length-vectorBytes, length-vectorFrom, length-maximum}
+use Rattle.notes.proofs.Vectors.{length-vectorBytes, length-vectorFrom}
+use Rattle.notes.proofs.Sessions.{read-eight}
 use Rattle.rules.specs.declared.answer.Refusal.{Refusal}
 use Rattle.rules.specs.Image.{imageSize, checkpointAt, checkpointCount, logCount, checkpointPlace, logPlace, checkpointArea, logArea, checkpoint, log}
 use Rattle.rules.specs.Calls.{placeOf, standsAt, lookUpRefusal, replyUnless}
 use Rattle.sound.specs.Tests.{placeReply}
 use Rattle.sound.proofs.LookUp.{Accepted, accepted, place-among}
-use Rattle.ssaldorip.specs.Calls.{vectorSize, left, placeOrNumber, raise}
+use Rattle.ssaldorip.specs.Calls.{vectorSize, left, placeOrNumber, sessionIn, raise}
 
 -- ---- a look-up
 
@@ -89,11 +91,11 @@ module _ (s v : List ℕ) where
     unfolding raise
     raise-by-short h = rw (le-ltb (length s) vectorSize long, lt-ltb (length v) vectorSize h)
 
-    pub raise-done : vectorSize ≤ length v → raise s v ≡ left 0 (sets s 0 (vectorBytes (maximum (vectorFrom s) (vectorFrom v))))
+    pub raise-done : vectorSize ≤ length v → raise s v ≡ left 0 (sets s 0 (vectorBytes (afterRead (sessionIn s) (vectorFrom v) .reads)))
     unfolding raise
     raise-done h =
-        let m = maximum (vectorFrom s) (vectorFrom v) in
-        let l = length-vectorBytes m (length-maximum (vectorFrom s) (vectorFrom v) (length-vectorFrom s) (length-vectorFrom v)) in
+        let m = afterRead (sessionIn s) (vectorFrom v) .reads in
+        let l = length-vectorBytes m (read-eight (sessionIn s) (vectorFrom v) (length-vectorFrom s) (length-vectorFrom v)) in
         rw (
           le-ltb (length s) vectorSize long,
           le-ltb (length v) vectorSize h,

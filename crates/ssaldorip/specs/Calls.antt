@@ -8,8 +8,10 @@ use lib.Dec.{eqb, leb, ltb}
 use lib.ListN.{drop, length, getD, replicate}
 use Rattle.notes.specs.Bytes.{Field, field, fromBytes, toBytes, pieces}
 use Rattle.notes.specs.Index.{phones, servers}
-use Rattle.notes.specs.Vector.{vectorFrom, vectorBytes, countSize, maximum}
+use Rattle.notes.specs.Vector.{vectorFrom, vectorBytes, countSize}
 use Rattle.notes.specs.declared.vector.Vector.{Vector}
+use Rattle.notes.specs.Session.{afterRead}
+use Rattle.notes.specs.declared.session.Session.{Session}
 use Rattle.notes.specs.Reply.{Reply, Filled}
 use Rattle.rules.specs.Memory.{blank, Memory, memory}
 use Rattle.rules.specs.declared.state.State.{State}
@@ -181,8 +183,11 @@ placeOrNumber (some r) p = refusalNumber r
 placeOrNumber none none = 0
 placeOrNumber none (some p) = p
 
--- the maximum of two vectors in the first one's bytes
+-- a session in its bytes, raised there by a read's reply
+abbrev pub sessionIn : List ℕ → Session
+sessionIn s = record { reads = vectorFrom s }
+
 unfoldable pub raise : List ℕ → List ℕ → ℕ × List ℕ
 raise s v =
     cond (ltb (length s) vectorSize || ltb (length v) vectorSize) (left 9 s)
-    (left 0 (onto (vectorBytes (maximum (vectorFrom s) (vectorFrom v))) s))
+    (left 0 (onto (vectorBytes (afterRead (sessionIn s) (vectorFrom v) .reads)) s))

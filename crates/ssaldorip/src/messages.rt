@@ -10,6 +10,8 @@ use notes::message::Checked;
 use notes::message::Refusal;
 use notes::message::Written;
 use notes::raw;
+use notes::session::raised_by;
+use notes::session::Session;
 use notes::vector::Vector;
 use sound::look_up;
 use sound::look_up::Found;
@@ -71,7 +73,7 @@ pub extern "C" fn ssaldorip_message_write(n: u8, sender: u8, records: &[u8], out
     }
 }
 
-// The session's vector raised by a read's reply, in place: 9 where one of the two is too short.
+// The session in its bytes raised by a read's reply, there: 9 where one of the two is too short.
 #[no_mangle]
 pub extern "C" fn ssaldorip_session_raise(session: &mut [u8], reply: &[u8]) -> u32
     ensures { λ r. ⌜ left r (now (session .exit)) ≡ raise (now (session .entry)) (now (reply .entry)) ⌝ }
@@ -82,7 +84,10 @@ pub extern "C" fn ssaldorip_session_raise(session: &mut [u8], reply: &[u8]) -> u
     if reply.len() < VECTOR_LEN {
         return 9;
     }
-    let reads = raw::vector_at(session, 0);
-    raw::put_vector(session, 0, reads.maximum(raw::vector_at(reply, 0)));
+    let before = Session {
+        reads: raw::vector_at(session, 0),
+    };
+    let after = raised_by(before, raw::vector_at(reply, 0));
+    raw::put_vector(session, 0, after.reads);
     0
 }
