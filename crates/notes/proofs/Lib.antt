@@ -9,4 +9,5 @@ pub mod Answers
 pub mod Reading
 pub mod Sessions
 pub mod InPlace
+pub mod Held
 pub mod Unique

@@ -12,6 +12,8 @@ use denote.Triple.Clauses.{Ended, AtExit}
 use Rattle.notes.specs.Reply.{Filled}
 use Rattle.notes.specs.Message.{filled}
 use Rattle.notes.specs.declared.message.Written.{Written}
+use Rattle.notes.specs.declared.reader.Item.{Item}
+use Rattle.notes.specs.declared.reader.Reader.{Reader}
 use Rattle.notes.proofs.Answers.{checked-known, written-known}
 use Rattle.notes.proofs.index.ServerId.is_one_of.Reads as is-one-of
 use Rattle.notes.proofs.vector.Vector.zero.Reads as zero
@@ -29,6 +31,16 @@ use Rattle.notes.proofs.record.Record.beats.Reads as beats
 use Rattle.notes.proofs.message.check.Reads as check
 use Rattle.notes.proofs.message.record_part.Reads as record-part
 use Rattle.notes.proofs.message.write.Reads as write
+use Rattle.notes.proofs.reader.first_place.Reads as first-place
+use Rattle.notes.proofs.reader.read_at.Reads as read-at
+use Rattle.notes.proofs.reader.place_after.Reads as place-after
+use Rattle.notes.proofs.reader.left_from.Reads as left-from
+use Rattle.notes.proofs.reader.record_from.Reads as record-from
+use Rattle.notes.proofs.reader.Reader.new as reader
+use Rattle.notes.proofs.reader.Reader.next as next
+use Rattle.notes.proofs.reader.Reader.advance as advance
+use Rattle.notes.proofs.reader.Reader.left as left
+use Rattle.notes.proofs.reader.take as take
 use Rattle.notes.proofs.session.Session.new.Reads as new
 use Rattle.notes.proofs.session.Session.read_carries.Reads as read-carries
 use Rattle.notes.proofs.session.Session.write_carries.Reads as write-carries
@@ -108,6 +120,18 @@ after-write-one k a x y s t p q = equal p q
 pub raised-by-one : One raised-by.Post (λ k r s. r)
 raised-by-one k a x y s t p q = equal p q
 
+pub read-at-one : One read-at.Post (λ k r s. r)
+read-at-one k a x y s t p q = equal p q
+
+pub place-after-one : One place-after.Post (λ k r s. r)
+place-after-one k a x y s t p q = equal p q
+
+pub left-from-one : One left-from.Post (λ k r s. r)
+left-from-one k a x y s t p q = equal p q
+
+pub record-from-one : One record-from.Post (λ k r s. r)
+record-from-one k a x y s t p q = equal p q
+
 -- a check is known by its number and values
 pub check-one : One check.Post (λ k r s. r)
 check-one k a x y s t p q = checked-known x y (equal p q)
@@ -124,7 +148,11 @@ filled-one x y o u e =
 pub write-one : One {O = Written × List ℕ} write.Post (λ k r s. (r, now (s .1 .1 .1 .0)))
 write-one k a x y s t p q = filled-one x y _ _ (equal p q)
 
--- ---- calls that take the session by reference: no `Reads` is made of them, so what they ensure is read here, in the same way
+-- a place, and the code written
+pub first-place-one : One {O = ℕ × ℕ} first-place.Post (λ k r s. (r, now (s .1 .0)))
+first-place-one k a x y s t p q = λ i. (equal (p .0) (q .0) i, equal (p .1) (q .1) i)
+
+-- ---- calls whose proofs are walks by hand: no `Reads` is made of them, so what they ensure is read here, in the same way
 abbrev Ensures : Ended → Type 2
 Ensures T = (k : Lfts (T .signature .lifetimes)) → ArgsD (T .signature) k → ResD (T .signature) k → AtExit T k → (w : World) → Pr w
 
@@ -139,6 +167,39 @@ keep-reads k a r s = all-models _ (λ w. r-last _) (λ w. refl) (λ w. refl) (λ
 
 abbrev carried-reads : Reading carried.ended (λ k a r s w. carried.clauses (w .𝓤) (w .H) (w .𝓖 .A) (w .𝓜 .mem) (w .𝓡 .run) k a .ensures tt r s)
 carried-reads k a r s = all-models _ (λ w. r-last _) (λ w. refl) (λ w. refl) (λ w. refl)
+
+abbrev reader-reads : Reading reader.ended (λ k a r s w. reader.clauses (w .𝓤) (w .H) (w .𝓖 .A) (w .𝓜 .mem) (w .𝓡 .run) k a .ensures tt r s)
+reader-reads k a r s = all-models _ (λ w. r-last _) (λ w. refl) (λ w. refl) (λ w. refl)
+
+abbrev next-reads : Reading next.ended (λ k a r s w. next.clauses (w .𝓤) (w .H) (w .𝓖 .A) (w .𝓜 .mem) (w .𝓡 .run) k a .ensures tt r s)
+next-reads k a r s = all-models _ (λ w. r-last _) (λ w. refl) (λ w. refl) (λ w. refl)
+
+abbrev advance-reads : Reading advance.ended (λ k a r s w. advance.clauses (w .𝓤) (w .H) (w .𝓖 .A) (w .𝓜 .mem) (w .𝓡 .run) k a .ensures tt r s)
+advance-reads k a r s = all-models _ (λ w. r-last _) (λ w. refl) (λ w. refl) (λ w. refl)
+
+abbrev left-reads : Reading left.ended (λ k a r s w. left.clauses (w .𝓤) (w .H) (w .𝓖 .A) (w .𝓜 .mem) (w .𝓡 .run) k a .ensures tt r s)
+left-reads k a r s = all-models _ (λ w. r-last _) (λ w. refl) (λ w. refl) (λ w. refl)
+
+abbrev take-reads : Reading take.ended (λ k a r s w. take.clauses (w .𝓤) (w .H) (w .𝓖 .A) (w .𝓜 .mem) (w .𝓡 .run) k a .ensures tt r s)
+take-reads k a r s = all-models _ (λ w. r-last _) (λ w. refl) (λ w. refl) (λ w. refl)
+
+-- the reader, and the code written
+pub reader-one : One {O = Reader × ℕ} (λ k a r s. AllOf (reader-reads k a r s .owes)) (λ k r s. (r, now (s .1 .0)))
+reader-one k a x y s t p q = λ i. (record { message = equal (p .0) (q .0) i; at = equal (p .1) (q .1) i }, equal (p .2) (q .2) i)
+
+pub next-one : One (λ k a r s. AllOf (next-reads k a r s .owes)) (λ k r s. r)
+next-one k a x y s t p q = equal p q
+
+pub advance-one : One (λ k a r s. AllOf (advance-reads k a r s .owes)) (λ k r s. r)
+advance-one k a x y s t p q = λ i. record { message = equal (p .0) (q .0) i; at = equal (p .1) (q .1) i }
+
+pub left-one : One (λ k a r s. AllOf (left-reads k a r s .owes)) (λ k r s. r)
+left-one k a x y s t p q = equal p q
+
+-- the record, and the reader left
+pub take-one : One {O = Item × Reader} (λ k a r s. AllOf (take-reads k a r s .owes)) (λ k r s. (r, now (s .0)))
+take-one k a x y s t p q =
+    λ i. (equal (p .0) (q .0) i, record { message = equal (p .1 .0) (q .1 .0) i; at = equal (p .1 .1) (q .1 .1) i })
 
 -- a session changed in place is known by its value at exit
 pub raise-one : One (λ k a r s. AllOf (raise-reads k a r s .owes)) (λ k r s. now (s .0))

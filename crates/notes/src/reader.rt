@@ -80,3 +80,63 @@ pub fn left_from(m: &[u8], at: usize) -> usize
     }
     (m.len() - at) / Record::LEN
 }
+
+// The message and the place of the next record.
+pub struct Reader<'a> {
+    pub message: &'a [u8],
+    pub at: usize,
+}
+
+impl<'a> Reader<'a> {
+    // A reader of a right message, with code 0; any other is refused with code 6, and the reader stands at its end.
+    pub fn new(message: &'a [u8], code: &mut u8) -> Reader<'a>
+        ensures { λ r. ⌜ (r .message ≡ message .entry) × (r .at ≡ firstPlace (now (message .entry))) × (now (code .exit) ≡ checkOf (now (message .entry)) .number) ⌝ }
+    {
+        let at = first_place(message, code);
+        Reader { message, at }
+    }
+
+    // The record at the reader's place, or that none is left.
+    pub fn next(self) -> Item
+        ensures { λ r. ⌜ r ≡ readAt (now (self .entry .message)) (self .entry .at) ⌝ }
+    {
+        read_at(self.message, self.at)
+    }
+
+    // The reader past that record.
+    pub fn advance(self) -> Reader<'a>
+        ensures { λ r. ⌜ (r .message ≡ self .entry .message) × (r .at ≡ placeAfter (now (self .entry .message)) (self .entry .at)) ⌝ }
+    {
+        let at = place_after(self.message, self.at);
+        Reader {
+            message: self.message,
+            at,
+        }
+    }
+
+    // How many whole records are left.
+    pub fn left(self) -> usize
+        ensures { λ r. ⌜ r ≡ leftFrom (now (self .entry .message)) (self .entry .at) ⌝ }
+    {
+        left_from(self.message, self.at)
+    }
+}
+
+// Reads the record at the reader's place and moves the reader past it, in place.
+pub fn take<'s, 'a>(r: &'s mut Reader<'a>) -> Item
+    ensures { λ x. ⌜ (x ≡ readAt (now (now (r .entry) .message)) (now (r .entry) .at))
+        × ((now (r .exit) .message ≡ now (r .entry) .message)
+        × (now (r .exit) .at ≡ placeAfter (now (now (r .entry) .message)) (now (r .entry) .at))) ⌝ }
+{
+    let x = read_at(r.message, r.at);
+    r.at = place_after(r.message, r.at);
+    x
+}
+
+// A record of a message, by its place. The contract says nothing of a reader, so whoever calls it needs no walk by hand.
+pub fn record_from(message: &[u8], at: usize) -> Item
+    ensures { λ r. ⌜ r ≡ readAt (now (message .entry)) at ⌝ }
+{
+    let r = Reader { message, at };
+    r.next()
+}
