@@ -7,7 +7,8 @@
  *   - a buffer lent for change overlaps no other buffer of the same call;
  *   - no other thread uses a buffer during a call in which it is lent for change.
  *
- * Each call returns 0 for done, or the number of a refusal (enum ssaldorip_refusal); ssaldorip_look_up alone returns more.
+ * Each call returns 0 for done, or the number of a refusal (enum ssaldorip_refusal); ssaldorip_look_up and
+ * ssaldorip_message_next return more.
  * A refusal changes no lent byte. Bytes past the sizes below stay as they are. Numbers in buffers are little-endian.
  *
  * A server is three buffers. The state and the history are its memory, which a cut loses. The image is what is stored: it
@@ -190,6 +191,14 @@ uint32_t ssaldorip_message_check(const uint8_t *message, size_t message_len);
 uint32_t ssaldorip_message_write(uint8_t n, uint8_t sender,
                                  const uint8_t *records, size_t records_len,
                                  uint8_t *out, size_t out_len);
+
+/* Reads a message record by record: copies the 28 bytes of the record at place `at` to the start of `record` and returns the place
+ * behind it, or 0 if no whole record is left there. The first record stands at SSALDORIP_MESSAGE_HEADER. From there on, a
+ * message that ssaldorip_message_check takes gives exactly its writes, in order, and then 0. The message is not checked here;
+ * on any bytes and any place the call reads within `message` only. The other bytes of `record` stay, and at 0 or 9 all of them.
+ * Refuses 9 (record under 28), which no place is. */
+size_t ssaldorip_message_next(const uint8_t *message, size_t message_len, size_t at,
+                              uint8_t *record, size_t record_len);
 
 /* Raises a phone's session in place by the vector of a read's reply (its last 16 bytes): the maximum at each position. A
  * write's reply leaves the session, so it is not given here. A new session is 16 zero bytes.

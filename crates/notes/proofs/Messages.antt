@@ -8,21 +8,21 @@ use native.Mathlib.Nat.{zero-add}
 use native.Mathlib.Omega.{arith}
 use borrow.Author.Tests.{ltb-true, leb-true, eqb-true, lt-ltb, le-ltb, le-leb, eq-eqb}
 use lib.Dec.{leb}
-use lib.Seq.{drop-drop, take-all, sets}
-use lib.ListN.{length, getD, take, drop, length-drop, length-append, List·getD-eq-default, set}
+use lib.Seq.{take-all, sets}
+use lib.ListN.{length, getD, take, drop, length-drop, length-append, set}
 use Rattle.notes.specs.Lists.{every}
 use Rattle.notes.specs.Index.{servers, serverOk}
-use Rattle.notes.specs.Bytes.{field, toBytes, pieces}
+use Rattle.notes.specs.Bytes.{field, toBytes}
 use Rattle.notes.specs.Reply.{done, refused}
-use Rattle.notes.specs.Record.{recordSize, decode, wellFormed, records, recordBytes}
-use Rattle.notes.specs.Message.{headerSize, countField, offsetField, totalField, historyMost, messageSize, headerOf, messageOf, recordsIn, recordsOk, messageN, messageSender, body, brought, messageOk, check, recordPart, whole, writeRefusal, write}
+use Rattle.notes.specs.Record.{recordSize, wellFormed, records, recordBytes}
+use Rattle.notes.specs.Message.{headerSize, countField, offsetField, totalField, historyMost, messageSize, headerOf, messageOf, recordsIn, recordsOk, messageN, messageSender, body, brought, messageOk, check, whole, writeRefusal, write}
 use Rattle.notes.specs.Raw.{headerOk}
 use Rattle.notes.specs.declared.index.ServerId.{ServerId}
 use Rattle.notes.specs.declared.record.Record.{Record}
 use Rattle.notes.proofs.Lists.{both, same-refl, same-true, parts-join, sets-append, sets-front}
 use Rattle.notes.proofs.Numbers.{AllBelow, below-drop, one-byte, from-one, from-to, part-back, byte-join}
-use Rattle.notes.proofs.Pieces.{Each, length-pieces, piece-at}
-use Rattle.notes.proofs.Records.{length-records, record-at, bytes-of-records, length-recordBytes, eight-counts}
+use Rattle.notes.proofs.Pieces.{Each}
+use Rattle.notes.proofs.Records.{length-records, bytes-of-records, length-recordBytes, eight-counts}
 
 -- ---- N and a server
 pub record Server (n s : ℕ) : Type 0 where
@@ -201,25 +201,6 @@ sender-at m = λ i. record { 0 = from-one 1 m i }
 
 pub server-at : (m : List ℕ) → serverOk (messageN m) (messageSender m) ≡ serverOk (getD m 0 0) (record { 0 = getD m 1 0 })
 server-at m = rw (n-at m, sender-at m)
-
--- ---- record k of a message as a part of it
-pub part-none : (m : List ℕ) (k : ℕ) → (length m - headerSize) / recordSize ≤ k → recordPart m k ≡ []
-unfolding recordPart
-part-none m k h = List·getD-eq-default (pieces recordSize (length (body m) / recordSize) (body m)) [] {n = k} (rw (length-pieces, length-drop) h)
-
-pub part-some :
-    (m : List ℕ) (k : ℕ)
-    → k < (length m - headerSize) / recordSize
-    → recordPart m k ≡ take recordSize (drop (headerSize + recordSize * k) m)
-unfolding recordPart
-part-some m k h = piece-at recordSize (length (body m) / recordSize) k (body m) (rw length-drop h) ∙ rw drop-drop
-
--- it is the bytes of the record that the message brings there
-pub part-record : (m : List ℕ) (k : ℕ) → k < length (brought m) → decode (recordPart m k) ≡ getD (brought m) k (decode [])
-unfolding recordPart
-part-record m k h =
-    let l : k < length (body m) / recordSize = rw length-records at h in
-    ap decode (piece-at recordSize (length (body m) / recordSize) k (body m) l) ∙ sym (record-at (length (body m) / recordSize) (body m) k l)
 
 -- ---- what a check answers
 module _ (m : List ℕ) (h : AllBelow 256 m) where

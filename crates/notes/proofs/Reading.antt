@@ -12,8 +12,8 @@ use Rattle.notes.specs.Record.{recordSize, decode, records}
 use Rattle.notes.specs.Bytes.{pieces}
 use Rattle.notes.specs.Message.{headerSize, body, brought, messageOk, check, firstPlace, wholeAt, item, readAt, placeAfter, leftFrom, Reads}
 use Rattle.notes.specs.declared.record.Record.{Record}
-use Rattle.notes.proofs.Records.{length-records}
-use Rattle.notes.proofs.Messages.{right-suits, part-some, part-record}
+use Rattle.notes.proofs.Records.{length-records, record-at}
+use Rattle.notes.proofs.Messages.{right-suits}
 
 -- ---- at a place
 pub none-there : (m : List ℕ) (at : ℕ) → length m < at + recordSize → wholeAt m at ≡ false
@@ -102,10 +102,18 @@ reads-left m at (w ∷ ws) (e, p) = go (wholeAt m at) refl (reads-left m (placeA
     go false q r = absurd (true≢false (sym (ap (λ x. x .found) e) ∙ ap (λ x. x .found) (read-none m at q)))
 
 -- record k of a message stands behind the header and the k records before it
+stands : (m : List ℕ) (k : ℕ) → k < length (brought m) → wholeAt m (headerSize + recordSize * k) ≡ true
+stands m k h = let l = rw (length-records, length-drop) at h in one-there m (headerSize + recordSize * k) (omega arith)
+
 pub read-record :
     (m : List ℕ) (k : ℕ)
     → k < length (brought m)
     → readAt m (headerSize + recordSize * k) ≡ record { found = true; write = getD (brought m) k (decode []) }
 read-record m k h =
-    let l : k < (length m - headerSize) / recordSize = rw (length-records, length-drop) at h in
-    read-found m _ (one-there m _ (omega arith)) ∙ ap (λ b. item true b) (sym (part-some m k l)) ∙ ap (λ r. record { found = true; write = r }) (part-record m k h)
+    let l : k < length (body m) / recordSize = rw length-records at h in
+    read-found m (headerSize + recordSize * k) (stands m k h)
+    ∙ (λ i. record { found = true; write = (sym (rw drop-drop at (record-at (length (body m) / recordSize) (body m) k l))) i })
+
+pub place-record :
+    (m : List ℕ) (k : ℕ) → k < length (brought m) → placeAfter m (headerSize + recordSize * k) ≡ headerSize + recordSize * (k + 1)
+place-record m k h = place-found m (headerSize + recordSize * k) (stands m k h) ∙ omega arith

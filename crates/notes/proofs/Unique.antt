@@ -29,7 +29,6 @@ use Rattle.notes.proofs.record.Record.number.Reads as number
 use Rattle.notes.proofs.record.Record.well_formed.Reads as well-formed
 use Rattle.notes.proofs.record.Record.beats.Reads as beats
 use Rattle.notes.proofs.message.check.Reads as check
-use Rattle.notes.proofs.message.record_part.Reads as record-part
 use Rattle.notes.proofs.message.write.Reads as write
 use Rattle.notes.proofs.reader.first_place.Reads as first-place
 use Rattle.notes.proofs.reader.read_at.Reads as read-at
@@ -135,10 +134,6 @@ record-from-one k a x y s t p q = equal p q
 -- a check is known by its number and values
 pub check-one : One check.Post (λ k r s. r)
 check-one k a x y s t p q = checked-known x y (equal p q)
-
--- a part is known by its bytes
-pub record-part-one : One record-part.Post (λ k r s. now r)
-record-part-one k a x y s t p q = equal p q
 
 -- a filled output by its number and values, and by its bytes
 pub filled-one : (x y : Written) (o u : List ℕ) → filled x o ≡ filled y u → _≡_ {A = Written × List ℕ} (x, o) (y, u)

@@ -6,9 +6,9 @@ use mathlib.Core.List.{List, [], _∷_, _++_}
 use mathlib.Core.Option.{Option, Option·map}
 use mathlib.Core.Path.{_≡_}
 use lib.Dec.{ltb, leb, eqb}
-use lib.ListN.{length, getD, take, drop}
+use lib.ListN.{length, take, drop}
 use Rattle.notes.specs.Lists.{every, same}
-use Rattle.notes.specs.Bytes.{Field, field, toBytes, pieces}
+use Rattle.notes.specs.Bytes.{Field, field, toBytes}
 use Rattle.notes.specs.Reply.{Reply, done, refused, Filled, given, first, fill}
 use Rattle.notes.specs.Index.{serverOk, ServerId}
 use Rattle.notes.specs.Record.{recordSize, decode, wellFormed, records, recordBytes, Record}
@@ -117,10 +117,6 @@ checkedReply (checked.Refused r) = refusalReply r
 
 unfoldable pub check : List ℕ → Reply
 check m = cond (messageOk m) (done (headerValues (headerSaid m))) (refusalReply Malformed)
-
--- the bytes of record k of a message, or no bytes where it has none
-unfoldable pub recordPart : List ℕ → ℕ → List ℕ
-recordPart m k = getD (pieces recordSize (length (body m) / recordSize) (body m)) k []
 
 -- a writer answers how many bytes it filled
 abbrev pub writtenReply : Written → Reply

@@ -3,7 +3,7 @@ ghost use mathlib.Core.Path.{_≡_};
 ghost use Prim.Native.Nat.{_≤_};
 ghost use mathlib.Core.Bool.{_&&_};
 ghost use Rattle.notes.specs.Index.{servers};
-ghost use Rattle.notes.specs.Message.{checkedReply, check as checkOf, recordPart, whole, recordsIn, recordsOk, filled, write as writeOf};
+ghost use Rattle.notes.specs.Message.{checkedReply, check as checkOf, whole, recordsIn, recordsOk, filled, write as writeOf};
 use crate::index::ServerId;
 use crate::raw;
 use crate::record::Record;
@@ -69,21 +69,6 @@ pub fn check(m: &[u8]) -> Checked
         sender: ServerId(m[Header::SENDER]),
         count: (m.len() - Header::LEN) / Record::LEN,
     })
-}
-
-// The bytes of record k of a message as a part of it, or an empty part where it has none.
-pub fn record_part(m: &[u8], k: usize) -> &[u8]
-    ensures { λ r. ⌜ now r ≡ recordPart (now (m .entry)) k ⌝ }
-{
-    if m.len() < Header::LEN {
-        return &m[..0];
-    }
-    let count = (m.len() - Header::LEN) / Record::LEN;
-    if count <= k {
-        return &m[..0];
-    }
-    let at = Header::LEN + Record::LEN * k;
-    &m[at..at + Record::LEN]
 }
 
 // Whole records, at most 256, each well formed for n servers.

@@ -1,15 +1,18 @@
 -- What the calls without a state answer: a place or a number, and a session's bytes raised.
 -- Assumes nothing.
 use Prim.Native.Nat.{ℕ, _≤_, _<_}
-use mathlib.Core.List.{List, [], _∷_}
+use mathlib.Core.List.{List, [], _∷_, _++_}
 use mathlib.Core.Option.{Option, none, some, Option·map, Option·some-ne-none}
+use mathlib.Core.Bool.{true, false}
 use mathlib.Core.Path.{_≡_, refl, sym, ap}
 use native.Mathlib.Omega.{arith}
 use borrow.Author.Tests.{lt-ltb, le-ltb}
-use lib.ListN.{length, getD}
-use lib.Seq.{sets}
+use lib.ListN.{length, getD, take, drop}
+use lib.Seq.{sets, take-all}
 use Rattle.notes.specs.Reply.{Reply, done, orElse}
 use Rattle.notes.specs.Vector.{vectorFrom, vectorBytes}
+use Rattle.notes.specs.Record.{recordSize, encode}
+use Rattle.notes.specs.Message.{readAt, placeAfter}
 use Rattle.notes.specs.Session.{afterRead}
 use Rattle.notes.specs.declared.index.ServerId.{ServerId}
 use Rattle.notes.proofs.Lists.{sets-front}
@@ -20,7 +23,7 @@ use Rattle.rules.specs.Image.{imageSize, checkpointAt, checkpointCount, logCoun
 use Rattle.rules.specs.Calls.{placeOf, standsAt, lookUpRefusal, replyUnless}
 use Rattle.sound.specs.Tests.{placeReply}
 use Rattle.sound.proofs.LookUp.{Accepted, accepted, place-among}
-use Rattle.ssaldorip.specs.Calls.{vectorSize, left, placeOrNumber, sessionIn, raise}
+use Rattle.ssaldorip.specs.Calls.{vectorSize, left, placeOrNumber, next, sessionIn, raise}
 
 -- ---- a look-up
 
@@ -79,6 +82,28 @@ module _ (i : List ℕ) (o : ServerId) (n p : ℕ) where
       go (some k) y f e = let z : _≡_ {A = ℕ} 0 1 = cc in absurd (omega arith)
       go none (some q) f e = f refl (cc)
       go none none f e = let z : _≡_ {A = ℕ} 0 1 = cc in absurd (omega arith)
+
+-- ---- reading a message
+module _ (m : List ℕ) (at : ℕ) (out : List ℕ) where
+  pub next-short : length out < recordSize → next m at out ≡ left 9 out
+  unfolding next
+  next-short h = rw (lt-ltb (length out) recordSize h)
+
+  module _ (room : recordSize ≤ length out) where
+    pub next-none : readAt m at .found ≡ false → next m at out ≡ left 0 out
+    unfolding next
+    next-none e = rw (le-ltb (length out) recordSize room, e)
+
+    -- the bytes b of what was read, copied
+    pub next-found :
+        readAt m at .found ≡ true
+        → (b after : List ℕ)
+        → b ≡ encode (readAt m at .write)
+        → after ≡ take (length b) b ++ drop (length b) out
+        → left (placeAfter m at) after ≡ next m at out
+    unfolding next
+    next-found e b after wrote copied =
+        rw (le-ltb (length out) recordSize room, e, ← wrote, copied, take-all (length b) b (omega arith))
 
 -- ---- a session
 module _ (s v : List ℕ) where

@@ -9,6 +9,7 @@ use Rattle.ssaldorip.specs.Calls.{Called, called, lent}
 use Rattle.ssaldorip.proofs.messages.ssaldorip_look_up.Reads as look-up
 use Rattle.ssaldorip.proofs.messages.ssaldorip_message_check.Reads as message-check
 use Rattle.ssaldorip.proofs.messages.ssaldorip_message_write.Reads as message-write
+use Rattle.ssaldorip.proofs.messages.ssaldorip_message_next.Reads as message-next
 use Rattle.ssaldorip.proofs.messages.ssaldorip_session_raise.Reads as session-raise
 use Rattle.ssaldorip.proofs.reports.ssaldorip_start.Reads as start
 use Rattle.ssaldorip.proofs.reports.ssaldorip_status.Reads as status
@@ -31,6 +32,10 @@ checks k a x y s t p q = p ∙ sym q
 -- with each byte of the output
 pub written : One {O = ℕ × List ℕ} message-write.Post (λ k r s. (r, now (s .1 .1 .1 .0)))
 written k a x y s t p q = p ∙ sym q
+
+-- with each byte of the record
+pub nexts : One {O = ℕ × List ℕ} message-next.Post (λ k r s. (r, now (s .1 .1 .0)))
+nexts k a x y s t p q = p ∙ sym q
 
 -- with each byte of the session
 pub raises : One {O = ℕ × List ℕ} session-raise.Post (λ k r s. (r, now (s .0)))

@@ -10,6 +10,8 @@ use Rattle.notes.specs.Bytes.{Field, field, fromBytes, toBytes, pieces}
 use Rattle.notes.specs.Index.{phones, servers}
 use Rattle.notes.specs.Vector.{vectorFrom, vectorBytes, countSize}
 use Rattle.notes.specs.declared.vector.Vector.{Vector}
+use Rattle.notes.specs.Record.{recordSize, encode}
+use Rattle.notes.specs.Message.{readAt, placeAfter}
 use Rattle.notes.specs.Session.{afterRead}
 use Rattle.notes.specs.declared.session.Session.{Session}
 use Rattle.notes.specs.Reply.{Reply, Filled}
@@ -182,6 +184,13 @@ unfoldable pub placeOrNumber : Option Refusal → Option ℕ → ℕ
 placeOrNumber (some r) p = refusalNumber r
 placeOrNumber none none = 0
 placeOrNumber none (some p) = p
+
+-- the record at a place of a message, copied, and the place behind it; 0 where no whole one is left; 9 first
+unfoldable pub next : List ℕ → ℕ → List ℕ → ℕ × List ℕ
+next m at out =
+    let x = readAt m at in
+    cond (ltb (length out) recordSize) (left 9 out)
+    (cond (x .found) (left (placeAfter m at) (onto (encode (x .write)) out)) (left 0 out))
 
 -- a session in its bytes, raised there by a read's reply
 abbrev pub sessionIn : List ℕ → Session

@@ -3,15 +3,17 @@ ghost use mathlib.Core.Path.{_≡_};
 ghost use Rattle.notes.specs.Message.{refusalNumber, check as checkOf, write as writeOf};
 ghost use Rattle.rules.specs.Writes.{server};
 ghost use Rattle.rules.specs.Calls.{standsAt, lookUpRefusal};
-ghost use Rattle.ssaldorip.specs.Calls.{left, answered, placeOrNumber, raise};
+ghost use Rattle.ssaldorip.specs.Calls.{left, answered, placeOrNumber, next, raise};
 use notes::index::ServerId;
 use notes::message;
 use notes::message::Checked;
 use notes::message::Refusal;
 use notes::message::Written;
 use notes::raw;
-use notes::session::raised_by;
+use notes::reader;
+use notes::record::Record;
 use notes::session::Session;
+use notes::session::raised_by;
 use notes::vector::Vector;
 use sound::look_up;
 use sound::look_up::Found;
@@ -71,6 +73,25 @@ pub extern "C" fn ssaldorip_message_write(n: u8, sender: u8, records: &[u8], out
         Written::Bytes(_) => 0,
         Written::Refused(k) => number(k),
     }
+}
+
+// The record at a place of a message, copied to the start of `out`: the place behind it, or 0 where no whole record is left, or
+// 9 where `out` is too short. No such place is 0 or 9.
+#[no_mangle]
+pub extern "C" fn ssaldorip_message_next(message: &[u8], at: usize, out: &mut [u8]) -> usize
+    ensures { λ r. ⌜ left r (now (out .exit)) ≡ next (now (message .entry)) at (now (out .entry)) ⌝ }
+{
+    if out.len() < Record::LEN {
+        return 9;
+    }
+    let read = reader::record_from(message, at);
+    if !read.found {
+        return 0;
+    }
+    let write = read.write;
+    let bytes = write.to_bytes();
+    bytes::copy(&bytes, out);
+    reader::place_after(message, at)
 }
 
 // The session in its bytes raised by a read's reply, there: 9 where one of the two is too short.

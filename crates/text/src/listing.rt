@@ -18,6 +18,7 @@ use notes::message::Header;
 use notes::message::Refusal;
 use notes::message::Written;
 use notes::raw;
+use notes::reader;
 use notes::record::Record;
 use notes::vector::Vector;
 
@@ -118,10 +119,13 @@ fn put_records(m: &[u8], out: &mut [u8], at: usize, n: u8, count: usize) -> usiz
     ensures { λ e. ⌜ Stored (now (out .entry)) at (flatMap (recordLine n) (brought (now (m .entry)))) e (now (out .exit)) ⌝ }
 {
     let mut end = at;
+    let mut place = Header::LEN;
     let mut k: usize = 0;
     while k < count {
-        let r = Record::from_bytes(message::record_part(m, k));
+        let read = reader::record_from(m, place);
+        let r = read.write;
         end = put_record(out, end, r, n);
+        place = reader::place_after(m, place);
         k += 1;
     }
     end
