@@ -21,9 +21,8 @@ use Rattle.rules.specs.Writes.{server, writesOf, countOf, tally}
 use Rattle.rules.specs.Memory.{Memory, writes}
 use Rattle.rules.specs.Answer.{Effect, finished, unless}
 use Rattle.rules.specs.Image.{checkpoint, log}
-use Rattle.rules.specs.Recovery.{recovered, recover, later}
+use Rattle.rules.specs.Sound.{recovered, recover, later, sound}
 use Rattle.rules.specs.Request.{isWrite, served, requestRefusals, request}
-use Rattle.rules.specs.Sound.{sound}
 use Rattle.rules.specs.Step.{plainRefusals, recovery, step}
 use Rattle.rules.proofs.Keeps.{recoveredIn, recovered-writes}
 use Rattle.rules.proofs.Passed as passed

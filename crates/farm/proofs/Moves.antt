@@ -21,7 +21,7 @@ use Rattle.rules.specs.declared.event.What.the-variants as what
 use Rattle.rules.specs.Writes.{server, keep, writesOf, tally}
 use Rattle.rules.specs.Memory.{Memory, withState, downOf}
 use Rattle.rules.specs.Answer.{Effect, finished, unless, isDown}
-use Rattle.rules.specs.Recovery.{recover}
+use Rattle.rules.specs.Sound.{recover}
 use Rattle.rules.specs.Step.{Taken, taken, takenFrom, updated, updateRefusals, update, plainRefusals, cut, recovery, step}
 use Rattle.rules.specs.Sound as soundness
 use Rattle.rules.proofs.Passed.{brought-known, plain}

@@ -53,14 +53,6 @@ module _ {A : Type 0} where
       let r = pre-pre xs ys zs (p .0, tail-eq-of-cons-eq (p .1)) (q .0, tail-eq-of-cons-eq (q .1)) (omega arith) in
       (r .0, λ i. (head-eq-of-cons-eq (p .1) ∙ sym (head-eq-of-cons-eq (q .1))) i ∷ r .1 i)
 
-  -- a beginning that is no shorter is the whole
-  pub pre-full : (a b : List A) → Pre a b → length b ≤ length a → a ≡ b
-  pre-full a b p h = go (p .0) (p .1)
-    where
-      go : (t : List A) → a ++ t ≡ b → a ≡ b
-      go [] e = sym (append-nil a) ∙ e
-      go (x ∷ t) e = absurd (omega (arith, ap length e, length-append a (x ∷ t)))
-
   -- one element more, where the longer list has it next
   pub pre-more : (a p q c : List A) (x : A) → Pre a c → p ++ x ∷ q ≡ c → length p ≡ length a → Pre (a ++ x ∷ []) c
   pre-more a p q c x h e l =

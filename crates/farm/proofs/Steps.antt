@@ -33,8 +33,7 @@ use Rattle.rules.specs.declared.state.State.{State}
 use Rattle.rules.specs.Writes.{writesOf, countOf, tally}
 use Rattle.rules.specs.Memory.{Memory, memory, withState, downOf, noting, noReads, writes}
 use Rattle.rules.specs.Image.{historySize, imageSize, headerOk, checkpoint, log, stored}
-use Rattle.rules.specs.Recovery.{recovered, recoveredState, recoveredHistory, recover}
-use Rattle.rules.specs.Sound.{isZero, suits, soundUp, soundDown, sound}
+use Rattle.rules.specs.Sound.{recovered, recoveredState, recoveredHistory, recover, isZero, suits, soundUp, soundDown, sound}
 use Rattle.rules.specs.Request.{newRecord, written, noted, cleared, due, ownPlan, plan, ready, performed, served, cutAfter}
 use Rattle.rules.specs.Step.{takenFrom, updated, step}
 use Rattle.rules.proofs.Phones.{reads-cleared}

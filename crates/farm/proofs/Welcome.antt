@@ -26,10 +26,9 @@ use Rattle.rules.specs.declared.event.What.the-variants as what
 use Rattle.rules.specs.Memory.{Memory, withState, downOf}
 use Rattle.rules.specs.Answer.{Effect, refusalNumber, finished, unless, short, head, isDown, elsewhere}
 use Rattle.rules.specs.Image.{historySize, imageSize, logMost, logCount}
-use Rattle.rules.specs.Recovery.{recover}
+use Rattle.rules.specs.Sound.{recover, sound}
 use Rattle.rules.specs.Request.{isWrite, plan, served, cutAfter, outOfRange, requestRefusals, cutRefusal, request, requestCut}
 use Rattle.rules.specs.Step.{taken, takenFrom, suitable, updateRefusals, update, plainRefusals, cut, recovery, happens, step}
-use Rattle.rules.specs.Sound.{sound}
 use Rattle.rules.proofs.Passed as passed
 use Rattle.farm.specs.Farm.{Farm, stepAt}
 use Rattle.farm.specs.Demand.{Reached, Recovery, Welcome}

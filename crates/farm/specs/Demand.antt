@@ -13,8 +13,7 @@ use Rattle.rules.specs.declared.event.Request.the-variants.{Read}
 use Rattle.rules.specs.declared.event.What.the-variants as what
 use Rattle.rules.specs.Memory.{Memory, writes}
 use Rattle.rules.specs.Image.{historySize, imageSize, checkpoint, log}
-use Rattle.rules.specs.Recovery.{later}
-use Rattle.rules.specs.Sound.{sound}
+use Rattle.rules.specs.Sound.{later, sound}
 use Rattle.farm.specs.Farm.{ServerId, Record, Vector, What, Asked, Begun, Farm, newFarm, Act, run, stepAt, begunRecord}
 
 -- what is lent to the servers: bytes, and enough of them

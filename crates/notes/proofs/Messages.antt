@@ -15,8 +15,7 @@ use Rattle.notes.specs.Index.{servers, serverOk}
 use Rattle.notes.specs.Bytes.{field, toBytes}
 use Rattle.notes.specs.Reply.{done, refused}
 use Rattle.notes.specs.Record.{recordSize, wellFormed, records, recordBytes}
-use Rattle.notes.specs.Message.{headerSize, countField, offsetField, totalField, historyMost, messageSize, headerOf, messageOf, recordsIn, recordsOk, messageN, messageSender, body, brought, messageOk, check, whole, writeRefusal, write}
-use Rattle.notes.specs.Raw.{headerOk}
+use Rattle.notes.specs.Message.{headerSize, countField, offsetField, totalField, historyMost, messageSize, headerOf, messageOf, recordsIn, recordsOk, messageN, messageSender, body, brought, messageOk, check, whole, writeRefusal, write, headerOk}
 use Rattle.notes.specs.declared.index.ServerId.{ServerId}
 use Rattle.notes.specs.declared.record.Record.{Record}
 use Rattle.notes.proofs.Lists.{both, same-refl, same-true, parts-join, sets-append, sets-front}

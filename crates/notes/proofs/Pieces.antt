@@ -38,11 +38,6 @@ module _ (w : ℕ) where
   length-pieces zero b = refl
   length-pieces (suc k) b = ap suc (length-pieces k (drop w b))
 
-  -- the first piece from a place on, and those behind it
-  pub pieces-from : (k i : ℕ) (b : List ℕ) → pieces w (suc k) (drop i b) ≡ take w (drop i b) ∷ pieces w k (drop (i + w) b)
-  unfolding pieces
-  pieces-from k i b = rw drop-drop
-
   -- piece j
   pub piece-at : (k j : ℕ) (b : List ℕ) → j < k → getD (pieces w k b) j [] ≡ take w (drop (w * j) b)
   unfolding pieces

@@ -14,7 +14,7 @@ use Rattle.notes.specs.Index.{servers, phones}
 use Rattle.notes.specs.Bytes.{field, fromBytes, toBytes, pieces}
 use Rattle.notes.specs.Vector.{behind, vectorBytes}
 use Rattle.notes.specs.Record.{recordSize, cells, inRange, wellFormed, stampAt, number, originField, phoneField, cellField, decode, encode, records, recordBytes}
-use Rattle.notes.specs.Raw.{limitsOf}
+use Rattle.notes.specs.Message.{limitsOf}
 use Rattle.notes.specs.declared.record.Record.{Record}
 use Rattle.notes.proofs.Lists.{both, every-more, every-fails, parts-join}
 use Rattle.notes.proofs.Numbers.{AllBelow, below-take, below-drop, from-below, one-byte, from-to, from-two, from-four, from-one, from-agree, part-back, byte-join}

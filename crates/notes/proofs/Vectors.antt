@@ -14,7 +14,7 @@ use Rattle.notes.specs.Index.{servers}
 use Rattle.notes.specs.Bytes.{fromBytes, toBytes, pieces}
 use Rattle.notes.specs.Vector.{vector, at, raised, maximum, sum, behind, zeroFrom, countSize, vectorFrom, vectorBytes}
 use Rattle.notes.specs.Record.{numberMost, stampOk}
-use Rattle.notes.specs.Raw.{limitAt, limitsOf}
+use Rattle.notes.specs.Message.{limitAt, limitsOf}
 use Rattle.notes.specs.declared.index.ServerId.{ServerId}
 use Rattle.notes.specs.declared.vector.Vector.{Vector}
 use Rattle.notes.proofs.Lists.{neither, take-more, copied-more, every-more, any-more, sets-append, flatMap-append, length-zipWith, getD-zipWith}

@@ -4,6 +4,5 @@ pub mod Reply
 pub mod Index
 pub mod Vector
 pub mod Record
-pub mod Message
 pub mod Session
-pub mod Raw
+pub mod Message

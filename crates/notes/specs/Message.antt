@@ -1,4 +1,4 @@
--- Update messages: a header of eight bytes, then the sender's history in order.
+-- Update messages: a header of eight bytes, then the sender's history in order; reading one; the forms that loops need.
 -- Assumes nothing.
 use Prim.Native.Nat.{ℕ, _+_, _*_, _-_, _/_, _%_}
 use mathlib.Core.Bool.{Bool, true, false, _&&_, not, cond}
@@ -6,12 +6,12 @@ use mathlib.Core.List.{List, [], _∷_, _++_}
 use mathlib.Core.Option.{Option, Option·map}
 use mathlib.Core.Path.{_≡_}
 use lib.Dec.{ltb, leb, eqb}
-use lib.ListN.{length, take, drop}
+use lib.ListN.{length, take, drop, replicate}
 use Rattle.notes.specs.Lists.{every, same}
 use Rattle.notes.specs.Bytes.{Field, field, toBytes}
 use Rattle.notes.specs.Reply.{Reply, done, refused, Filled, given, first, fill}
-use Rattle.notes.specs.Index.{serverOk, ServerId}
-use Rattle.notes.specs.Record.{recordSize, decode, wellFormed, records, recordBytes, Record}
+use Rattle.notes.specs.Index.{serverOk, ServerId, servers}
+use Rattle.notes.specs.Record.{recordSize, decode, wellFormed, records, recordBytes, Record, numberMost}
 use Rattle.notes.specs.declared.message.Header.{Header}
 use Rattle.notes.specs.declared.message.Refusal.{Refusal}
 use Rattle.notes.specs.declared.message.Refusal.the-variants.{OutOfRange, Malformed, TooShort}
@@ -20,6 +20,7 @@ use Rattle.notes.specs.declared.message.Checked.the-variants as checked
 use Rattle.notes.specs.declared.message.Written.{Written}
 use Rattle.notes.specs.declared.message.Written.the-variants as written
 use Rattle.notes.specs.declared.reader.Item.{Item}
+use Rattle.notes.specs.Vector.{vector, Vector}
 
 -- ---- the layout
 
@@ -171,3 +172,21 @@ leftFrom m at = (length m - at) / recordSize
 unfoldable pub Reads : List ℕ → ℕ → List Record → Type 0
 Reads m at [] = readAt m at .found ≡ false
 Reads m at (w ∷ ws) = (readAt m at ≡ record { found = true; write = w }) × Reads m (placeAfter m at) ws
+
+-- ---- what the functions of `raw` give, in the forms that loops need; no public call is stated by these
+
+-- the most that a position of a well formed T holds, and each of the eight: zero from n on
+abbrev pub limitAt : ℕ → ℕ → ℕ
+limitAt n i = cond (ltb i n) numberMost 0
+
+unfoldable pub limitsOf : ℕ → Vector
+limitsOf n = vector (take servers (replicate n numberMost ++ replicate servers 0))
+
+-- a message's header and its length suit each other
+unfoldable pub headerOk : List ℕ → Bool
+headerOk m =
+    serverOk (messageN m) (messageSender m)
+    && leb (field countField m) historyMost
+    && eqb (field offsetField m) headerSize
+    && eqb (field totalField m) (length m)
+    && eqb (length m) (messageSize (field countField m))

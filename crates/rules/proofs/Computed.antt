@@ -12,8 +12,7 @@ use Rattle.rules.specs.declared.event.What.the-variants as what
 use Rattle.rules.specs.Writes.{keep, counting, serverIds, writesOf, tally, inTurn, sameRecords, best, winner}
 use Rattle.rules.specs.Memory.{phoneIds, inSet, withPhone, members}
 use Rattle.rules.specs.Image.{headerOf, headerOk, checkpoint, log, freshImage, stored, byteStores, writePlan, checkpointPlan}
-use Rattle.rules.specs.Recovery.{later, recovered, raisedBy, recoveredVector, recoveredState, recoveredHistory, recover}
-use Rattle.rules.specs.Sound.{vCounts, isFirst, isLast, holdsBefore, writesOk, readsOk, consistent, isZero, suits, soundUp, soundDown, sound}
+use Rattle.rules.specs.Sound.{later, recovered, raisedBy, recoveredVector, recoveredState, recoveredHistory, recover, vCounts, isFirst, isLast, holdsBefore, writesOk, readsOk, consistent, isZero, suits, soundUp, soundDown, sound}
 use Rattle.rules.specs.Request.{newVector, newRecord, written, noted, cleared, due, ownPlan, plan, ready, performed, replyTo, served, cutAfter, requestRefusals, request, requestCut}
 use Rattle.rules.specs.Step.{atTurn, taken, updated, updateRefusals, update, plainRefusals, cut, recovery, step}
 use Rattle.rules.specs.Calls.{fresh, ownMessage}

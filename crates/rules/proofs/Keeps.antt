@@ -33,8 +33,7 @@ use Rattle.rules.specs.declared.state.State.{State}
 use Rattle.rules.specs.Writes.{keepIf, keep, counting, serverIds, writesOf, tally}
 use Rattle.rules.specs.Memory.{Memory, memory, downOf, writes, blank, withState}
 use Rattle.rules.specs.Image.{checkpointCount, logCount, checkpoint, log, imageSize, checkpointAt, logAt, checkpointArea, logArea, historySize, stored}
-use Rattle.rules.specs.Recovery.{later, recovered, recoveredState, recoveredHistory, recover}
-use Rattle.rules.specs.Sound.{sound, isZero, suits, soundUp, soundDown}
+use Rattle.rules.specs.Sound.{later, recovered, recoveredState, recoveredHistory, recover, sound, isZero, suits, soundUp, soundDown}
 use Rattle.rules.specs.Answer.{finished, isDown}
 use Rattle.rules.specs.Request.{written, noted, cleared, due, ownPlan, plan, ready, performed, served, cutAfter, request, requestCut, requestRefusals, cutRefusal}
 use Rattle.rules.specs.Step.{Turn, skipped, appended, refuses, atTurn, vectorAfter, Taken, andThen, taken, takenFrom, updated, update, updateRefusals, plainRefusals, cut, recovery, happens, step}

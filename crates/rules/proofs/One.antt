@@ -22,7 +22,7 @@ use Rattle.rules.specs.declared.event.What.{What}
 use Rattle.rules.specs.declared.event.What.the-variants as what
 use Rattle.rules.specs.declared.state.State.{State}
 use Rattle.rules.specs.Memory.{Memory, withState, downOf, writes}
-use Rattle.rules.specs.Recovery.{recover}
+use Rattle.rules.specs.Sound.{recover}
 use Rattle.rules.specs.Answer.{Effect, effectOf, verdictReply, statusReply, finished, isDown}
 use Rattle.rules.specs.Request.{noted, cleared, due, ready, performed, served, cutAfter, written, newRecord, requestRefusals, cutRefusal, request, requestCut}
 use Rattle.rules.specs.Step.{takenFrom, updated, updateRefusals, update, plainRefusals, cut, recovery, happens, step}

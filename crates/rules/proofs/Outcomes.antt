@@ -1,7 +1,7 @@
 -- A step, case by case: it refuses and changes nothing, or it is one of five things of which more is known.
 -- Assumes nothing.
 use Prim.Native.Nat.{ℕ}
-use mathlib.Core.Bool.{true, false, true≢false}
+use mathlib.Core.Bool.{false, true≢false}
 use mathlib.Core.List.{List, [], _∷_, _++_}
 use mathlib.Core.Option.{Option, none, some}
 use mathlib.Core.Path.{_≡_, refl, sym, _∙_}
@@ -21,8 +21,7 @@ use Rattle.rules.specs.declared.event.What.{What}
 use Rattle.rules.specs.declared.event.What.the-variants as what
 use Rattle.rules.specs.Writes.{winner}
 use Rattle.rules.specs.Memory.{Memory, withState, downOf, writes}
-use Rattle.rules.specs.Recovery.{recover}
-use Rattle.rules.specs.Sound.{sound}
+use Rattle.rules.specs.Sound.{recover, sound}
 use Rattle.rules.specs.Answer.{Effect, refusalReply, replying, finished, isDown}
 use Rattle.rules.specs.Request.{valueOf, replyTo, served, cutAfter, requestRefusals, cutRefusal, request, requestCut}
 use Rattle.rules.specs.Step.{takenFrom, updated, updateRefusals, update, plainRefusals, cut, recovery, happens, step}

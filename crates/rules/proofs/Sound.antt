@@ -30,8 +30,7 @@ use Rattle.rules.specs.declared.state.ReadTable.{ReadTable}
 use Rattle.rules.specs.declared.state.State.{State}
 use Rattle.rules.specs.Writes.{keep, counting, writesOf, countOf, tally, inTurn, sameRecords}
 use Rattle.rules.specs.Memory.{withPhone, inCR, rwWith, holding, noting}
-use Rattle.rules.specs.Recovery.{later, recovered, raisedBy, recoveredVector, recoveredState}
-use Rattle.rules.specs.Sound.{vCounts, isFirst, last, isLast, holdsBefore, writesOk, readsOk, consistent}
+use Rattle.rules.specs.Sound.{later, recovered, raisedBy, recoveredVector, recoveredState, vCounts, isFirst, last, isLast, holdsBefore, writesOk, readsOk, consistent}
 use Rattle.rules.specs.Request.{newVector, cleared, noted}
 use Rattle.rules.specs.Step.{Turn, skipped, appended, refuses, atTurn, vectorAfter, Taken, andThen, taken}
 use Rattle.rules.proofs.Lists.{every-take, every-drop, every-keep, keep-passes}

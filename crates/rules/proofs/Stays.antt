@@ -19,7 +19,7 @@ use Rattle.rules.specs.declared.event.What.{What}
 use Rattle.rules.specs.declared.event.What.the-variants as what
 use Rattle.rules.specs.Memory.{Memory, withState, downOf}
 use Rattle.rules.specs.Image.{historySize, checkpointCount, logCount, checkpointPlan}
-use Rattle.rules.specs.Recovery.{recoveredHistory, recover}
+use Rattle.rules.specs.Sound.{recoveredHistory, recover}
 use Rattle.rules.specs.Answer.{finished, isDown}
 use Rattle.rules.specs.Request.{newRecord, written, due, ownPlan, plan, performed, served, cutAfter, requestRefusals, cutRefusal, request, requestCut}
 use Rattle.rules.specs.Step.{takenFrom, updated, updateRefusals, update, plainRefusals, cut, recovery, happens, step}

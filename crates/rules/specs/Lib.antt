@@ -1,6 +1,5 @@
 pub mod Writes
 pub mod Memory
-pub mod Recovery
 pub mod Sound
 pub mod Image
 pub mod Answer

@@ -17,7 +17,7 @@ use Rattle.rules.specs.Memory.{Memory, withState, withHistory, holding, 
 use Rattle.rules.specs.declared.event.Event.{Event}
 use Rattle.rules.specs.declared.event.What.{What}
 use Rattle.rules.specs.declared.event.What.the-variants as what
-use Rattle.rules.specs.Recovery.{recover}
+use Rattle.rules.specs.Sound.{recover}
 use Rattle.rules.specs.Request.{request, requestCut}
 
 -- ---- an update: a message's writes in turn

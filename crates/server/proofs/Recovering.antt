@@ -24,8 +24,7 @@ use Rattle.notes.proofs.Vectors.{at-raised, at-raised-other}
 use Rattle.rules.specs.Writes.{writesOf, countOf, tally, inTurn}
 use Rattle.rules.specs.Memory.{memory, blank, holding, noting, noReads}
 use Rattle.rules.specs.Image.{historySize, imageSize, checkpointAt, checkpointCount, logCount, checkpointArea, logArea, logPlace, headerOk, checkpoint, log}
-use Rattle.rules.specs.Recovery.{later, recovered, recoveredVector, recoveredState, recoveredHistory, recover}
-use Rattle.rules.specs.Sound.{suits}
+use Rattle.rules.specs.Sound.{later, recovered, recoveredVector, recoveredState, recoveredHistory, recover, suits}
 use Rattle.rules.proofs.Places.{records-drop}
 use Rattle.rules.proofs.Writes.{writesOf-append, writesOf-all, writesOf-none, length-tally, at-tally, vectors-equal, same-server, raised-by}
 use Rattle.sound.specs.Tests.{added, downTest, logTest, walkOf}

@@ -22,8 +22,7 @@ use Rattle.notes.specs.declared.record.Record.{Record}
 use Rattle.notes.proofs.Lists.{both, every-append}
 use Rattle.notes.proofs.Vectors.{zeros-at}
 use Rattle.rules.specs.Writes.{keep, counting, writesOf, countOf, tally, inTurn, sameRecords}
-use Rattle.rules.specs.Recovery.{later, recovered, recoveredVector, recoveredState}
-use Rattle.rules.specs.Sound.{last, isLast, consistent}
+use Rattle.rules.specs.Sound.{later, recovered, recoveredVector, recoveredState, last, isLast, consistent}
 use Rattle.rules.proofs.Lists.{keep-passes, every-keep, every-drop, counting-at, map-at}
 use Rattle.rules.proofs.Writes.{InTurn, in-turn, turn-in, turn-first, same-records, records-same, at-tally, writesOf-append, writesOf-all, writesOf-none, From, from-above, from-drop, raised-by, same-server}
 use Rattle.rules.proofs.Phones.{no-reads}

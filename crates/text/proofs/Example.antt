@@ -10,8 +10,7 @@ use Rattle.notes.specs.Index.{serverOk}
 use Rattle.notes.specs.Vector.{zeroFrom, vectorFrom, vectorBytes}
 use Rattle.notes.specs.Record.{decode, encode, inRange, stampOk, wellFormed, records, recordBytes}
 use Rattle.notes.specs.Message.{headerOf, messageOf, recordsOk, messageOk}
-use Rattle.text.specs.Text.{text, decimalIn}
-use Rattle.text.specs.Listing.{line, headLine, listing}
+use Rattle.text.specs.Text.{text, decimalIn, line, headLine, listing}
 
 pub message : List ℕ
 message =

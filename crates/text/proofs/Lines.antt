@@ -16,8 +16,7 @@ use Rattle.notes.specs.declared.record.Record.{Record}
 use Rattle.notes.proofs.Answers.{filled-within}
 use Rattle.notes.proofs.Lists.{copied-more}
 use Rattle.notes.proofs.Messages.{right-few, right-n}
-use Rattle.text.specs.Text.{text, decimal, spaced, Stored}
-use Rattle.text.specs.Listing.{line, numbersOf, recordLine, headLine, listing, headRoom, lineRoom, listingRoom, list}
+use Rattle.text.specs.Text.{text, decimal, spaced, Stored, line, numbersOf, recordLine, headLine, listing, headRoom, lineRoom, listingRoom, list}
 use Rattle.notes.specs.declared.message.Refusal.the-variants.{TooShort}
 use Rattle.notes.specs.declared.message.Written.the-variants.{Bytes, Refused}
 use Rattle.text.proofs.Decimals.{length-decimal, length-spaced}

@@ -11,7 +11,7 @@ use Rattle.notes.specs.Message.{filled}
 use Rattle.notes.specs.declared.message.Refusal.the-variants.{TooShort}
 use Rattle.notes.specs.declared.message.Written.the-variants.{Bytes, Refused}
 use Rattle.notes.proofs.Answers.{filled-within}
-use Rattle.text.specs.Text.{spaced, Stored, named, namedRoom, line}
+use Rattle.text.specs.Text.{spaced, Stored, named, namedRoom, namedLine}
 use Rattle.text.proofs.Decimals.{length-spaced}
 use Rattle.text.proofs.Texts.{each-room, fill-short, fill-done}
 
@@ -19,21 +19,21 @@ pub numbers-room : (xs : List ℕ) → length (flatMap spaced xs) ≤ 11 * lengt
 numbers-room xs = each-room spaced 11 length-spaced xs
 
 module _ (name xs out : List ℕ) where
-  pub line-short : length out < namedRoom (length name) (length xs) → filled (Refused TooShort) out ≡ line name xs out
-  unfolding line
+  pub line-short : length out < namedRoom (length name) (length xs) → filled (Refused TooShort) out ≡ namedLine name xs out
+  unfolding namedLine
   line-short h = fill-short _ (named name xs) out h
 
   pub line-done :
       (end : ℕ) (after : List ℕ)
       → namedRoom (length name) (length xs) ≤ length out
       → Stored out 0 (named name xs) end after
-      → filled (Bytes end) after ≡ line name xs out
-  unfolding line
+      → filled (Bytes end) after ≡ namedLine name xs out
+  unfolding namedLine
   line-done end after h s =
       fill-done (namedRoom (length name) (length xs)) (named name xs) out end after
       (simp length-append (omega (arith, numbers-room xs))) h s
 
   -- the line lies within the output
-  pub line-within : (k : ℕ) (after : List ℕ) → filled (Bytes k) after ≡ line name xs out → k ≤ length after
-  unfolding line
+  pub line-within : (k : ℕ) (after : List ℕ) → filled (Bytes k) after ≡ namedLine name xs out → k ≤ length after
+  unfolding namedLine
   line-within k after e = filled-within (given (ltb (length out) (namedRoom (length name) (length xs))) TooShort) (named name xs) out k after e

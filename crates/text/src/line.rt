@@ -2,7 +2,7 @@
 ghost use mathlib.Core.Path.{_≡_};
 ghost use lib.Dec.{leb};
 ghost use Rattle.notes.specs.Message.{filled};
-ghost use Rattle.text.specs.Text.{namedRoom, line as lineOf};
+ghost use Rattle.text.specs.Text.{namedRoom, namedLine};
 use crate::print::DIGITS;
 use crate::print::put_all_spaced;
 use crate::print::put_text;
@@ -25,7 +25,7 @@ fn has_room(name: usize, count: usize, out: usize) -> bool
 // Stores the name, each number with a space before it, and a line feed at the start of out: 9 where out has no room for
 // numbers of ten digits each.
 pub fn line(name: &[u8], xs: &[u32], out: &mut [u8]) -> Written
-    ensures { λ r. ⌜ filled r (now (out .exit)) ≡ lineOf (now (name .entry)) (now (xs .entry)) (now (out .entry)) ⌝ }
+    ensures { λ r. ⌜ filled r (now (out .exit)) ≡ namedLine (now (name .entry)) (now (xs .entry)) (now (out .entry)) ⌝ }
 {
     if !has_room(name.len(), xs.len(), out.len()) {
         return Written::Refused(Refusal::TooShort);

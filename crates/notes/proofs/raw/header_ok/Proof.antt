@@ -7,8 +7,7 @@ use native.Mathlib.Omega.{arith}
 use borrow.Author.Tests.{lt-leb, le-leb, ne-eqb, eq-eqb, not-true, not-false}
 use lib.ListN.{length}
 use Rattle.notes.specs.Bytes.{field}
-use Rattle.notes.specs.Message.{countField, offsetField, totalField}
-use Rattle.notes.specs.Raw.{headerOk}
+use Rattle.notes.specs.Message.{countField, offsetField, totalField, headerOk}
 use Rattle.notes.proofs.Messages.{server-at}
 use borrow.Author.Needs.{needs}
 use Rattle.notes.proofs.raw.header_ok.Statement.{statement}

@@ -6,7 +6,7 @@ use mathlib.Core.List.{_++_}
 use native.Mathlib.Omega.{arith}
 use lib.ListN.{length, take, drop}
 use Rattle.notes.specs.Vector.{vector, zeros}
-use Rattle.notes.specs.Raw.{limitsOf}
+use Rattle.notes.specs.Message.{limitsOf}
 use Rattle.notes.specs.declared.vector.Vector.{Vector}
 use Rattle.notes.proofs.Lists.{copied-more}
 use Rattle.notes.proofs.Vectors.{limit-at, length-limits, copied-all}

@@ -3,7 +3,7 @@
 use mathlib.Core.List.{[]}
 use mathlib.Core.Path.{sym, ap, _∙_}
 use Rattle.rules.specs.Memory.{memory}
-use Rattle.rules.specs.Recovery.{recover}
+use Rattle.rules.specs.Sound.{recover}
 use Rattle.rules.specs.Answer.{finished}
 use Rattle.rules.specs.Step.{recovery}
 use Rattle.rules.proofs.Passed.{head-known, head-right}

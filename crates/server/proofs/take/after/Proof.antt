@@ -5,7 +5,6 @@ use mathlib.Core.List.{List}
 use mathlib.Core.Path.{_≡_}
 use lib.ListN.{getD}
 use Rattle.notes.specs.Record.{decode}
-use Rattle.notes.specs.declared.index.ServerId.{ServerId}
 use Rattle.notes.proofs.Numbers.{from-one}
 use borrow.Author.Needs.{needs}
 use Rattle.server.proofs.take.after.Statement.{statement}

@@ -1,7 +1,7 @@
 -- `listing::put_head` meets its contract: piece by piece.
 -- Assumes nothing.
 use native.Mathlib.Omega.{arith}
-use Rattle.text.specs.Listing.{headLine}
+use Rattle.text.specs.Text.{headLine}
 use Rattle.text.proofs.Decimals.{length-decimal}
 use Rattle.text.proofs.Texts.{then, same-room}
 use borrow.Author.Needs.{needs}

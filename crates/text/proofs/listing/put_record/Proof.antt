@@ -3,7 +3,7 @@
 use mathlib.Core.Path.{_≡_, ap}
 use native.Mathlib.Omega.{arith}
 use lib.ListN.{length, length-take}
-use Rattle.text.specs.Listing.{line}
+use Rattle.text.specs.Text.{line}
 use Rattle.text.proofs.Texts.{same-text}
 use Rattle.text.proofs.Lines.{numbers-taken}
 use borrow.Author.Needs.{needs}

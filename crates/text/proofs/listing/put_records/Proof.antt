@@ -9,8 +9,7 @@ use lib.ListN.{length, take}
 use Rattle.notes.specs.Record.{decode, recordSize}
 use Rattle.notes.specs.Message.{headerSize, brought, readAt, placeAfter}
 use Rattle.notes.proofs.Reading.{read-record, place-record}
-use Rattle.text.specs.Text.{Stored}
-use Rattle.text.specs.Listing.{recordLine, lineRoom}
+use Rattle.text.specs.Text.{Stored, recordLine, lineRoom}
 use Rattle.text.proofs.Texts.{then, same-text, same-room, no-text, each-more, each-all}
 use Rattle.text.proofs.Lines.{record-room}
 use borrow.Author.Needs.{needs}

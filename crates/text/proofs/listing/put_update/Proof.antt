@@ -7,7 +7,7 @@ use lib.ListN.{length}
 use Rattle.notes.specs.Message.{brought}
 use Rattle.notes.specs.declared.message.Header.{Header}
 use Rattle.notes.proofs.Messages.{right-few, right-n}
-use Rattle.text.specs.Listing.{headLine, recordLine, listing}
+use Rattle.text.specs.Text.{headLine, recordLine, listing}
 use Rattle.text.proofs.Texts.{then, same-text, same-room}
 use Rattle.text.proofs.Lines.{listed-right, head-room}
 use borrow.Author.Needs.{needs}
