@@ -1,0 +1,50 @@
+#!/bin/sh
+# Every name that docs/PROMISES.md cites is there: definitions, theorems, functions and must-fail edits.
+cd "$(dirname "$0")/.." || exit 1
+page=docs/PROMISES.md
+names=$(mktemp) || exit 1
+trap 'rm -f "$names"' EXIT
+
+# A definition, theorem, field or constructor in a file of this name.
+defined() {
+    find crates \( -path '*/specs/*' -o -path '*/proofs/*' \) -name "$1.antt" \
+        -exec grep -lE "^ *(abbrev |unfoldable )?(pub )?(record |data )?$2( |\$)" {} + | grep -q .
+}
+
+# A function, constant or type of this name, or a module.
+declared() {
+    grep -qE "(fn|const|struct|enum) $1\b" crates/*/src/*.rt || ls crates/*/src/"$1".rt >/dev/null 2>&1
+}
+
+# A word of the crates' files, of a file's name, or a tool.
+mentioned() {
+    grep -rqwF -- "$1" crates rust/src include || find crates docs tests rust include -name "$1*" | grep -q . || command -v "$1" >/dev/null
+}
+
+there() {
+    case $1 in
+    *::*) declared "${1##*::}" ;;
+    [A-Z]*.antt | */* | *.txt) [ -e "$1" ] || find crates -name "${1##*/}" | grep -q . ;;
+    [A-Z]*.*) defined "${1%%.*}" "${1##*.}" ;;
+    *) mentioned "$1" ;;
+    esac
+}
+
+# What stands between backticks, and must-fail edits by crate and name.
+grep -oE '`[A-Za-z][A-Za-z0-9_.:/-]*`' $page | tr -d '`' | sort -u >"$names"
+grep -oE '\b(notes|rules|farm|sound|requests|server|text|ssaldorip)/[a-z][a-z0-9_]+' $page |
+    grep -vE '/(specs|proofs|src)$' | sed 's|\(.*\)/\(.*\)|crates/\1/must-fail/\2.edit|' | sort -u >>"$names"
+
+passed=0
+failed=0
+while read -r name; do
+    if there "$name"; then
+        passed=$((passed + 1))
+    else
+        failed=$((failed + 1))
+        echo "not there: $name"
+    fi
+done <"$names"
+
+echo "$passed passed, $failed failed"
+[ "$failed" -eq 0 ]
