@@ -56,8 +56,8 @@ status m = let readers = members (m .state .cr) in replyUnless (first (head m (i
 -- ---- look-up by origin and number in an image
 
 -- the place among records of the first with this origin and number
-abbrev pub isWrite : ServerId → ℕ → Record → Bool
-isWrite o k r = eqb (r .origin .0) (o .0) && eqb (number r) k
+abbrev pub isNumbered : ServerId → ℕ → Record → Bool
+isNumbered o k r = eqb (r .origin .0) (o .0) && eqb (number r) k
 
 abbrev pub orLater : Bool → Option ℕ → Option ℕ
 orLater true later = some 0
@@ -65,7 +65,7 @@ orLater false later = Option·map suc later
 
 unfoldable pub placeOf : ServerId → ℕ → List Record → Option ℕ
 placeOf o k [] = none
-placeOf o k (r ∷ rs) = orLater (isWrite o k r) (placeOf o k rs)
+placeOf o k (r ∷ rs) = orLater (isNumbered o k r) (placeOf o k rs)
 
 -- from the checkpoint area or else from the log: where in the image the record stands
 unfoldable pub standsAt : List ℕ → ServerId → ℕ → Option ℕ

@@ -25,7 +25,7 @@ use Rattle.notes.proofs.Messages.{server-facts}
 use Rattle.rules.specs.declared.answer.Refusal.the-variants.{OutOfRange, Unsound, TooShort}
 use Rattle.rules.specs.Image.{historySize, logMost, imageSize, imageN, imageOwn, checkpointCount, logCount, headerOk, checkpointArea, logArea, checkpoint, log, checkpointPlace, logPlace}
 use Rattle.rules.specs.Sound.{suits}
-use Rattle.rules.specs.Calls.{isWrite, orLater, placeOf, standsAt, bytesAt, lookUpRefusal}
+use Rattle.rules.specs.Calls.{isNumbered, orLater, placeOf, standsAt, bytesAt, lookUpRefusal}
 use Rattle.rules.proofs.Places.{part-in, records-in}
 use Rattle.rules.proofs.Stores.{Shows, shows-server, shows-counts}
 use Rattle.rules.proofs.Passed.{ungiven}
@@ -34,11 +34,11 @@ use Rattle.sound.specs.Tests.{partAt, partOf}
 module _ (o : ServerId) (n : ℕ) where
   -- the origin's byte decides, or else the number
   module _ (b : List ℕ) where
-    pub other-origin : (getD b 0 0 ≡ o .0 → ⊥) → isWrite o n (decode b) ≡ false
+    pub other-origin : (getD b 0 0 ≡ o .0 → ⊥) → isNumbered o n (decode b) ≡ false
     unfolding decode
     other-origin h = rw (from-one 0 b, ne-eqb (getD b 0 0) (o .0) h)
 
-    pub number-decides : getD b 0 0 ≡ o .0 → isWrite o n (decode b) ≡ eqb (number (decode b)) n
+    pub number-decides : getD b 0 0 ≡ o .0 → isNumbered o n (decode b) ≡ eqb (number (decode b)) n
     unfolding decode
     number-decides h = rw (from-one 0 b, eq-eqb (getD b 0 0) (o .0) h)
 
@@ -46,7 +46,7 @@ module _ (o : ServerId) (n : ℕ) where
   place-below : (l : List Record) (p : ℕ) → placeOf o n l ≡ some p → p < length l
   unfolding placeOf
   place-below [] p e = absurd (Option·some-ne-none p (sym e))
-  place-below (r ∷ l) p e = go (isWrite o n r) (placeOf o n l) (place-below l) e
+  place-below (r ∷ l) p e = go (isNumbered o n r) (placeOf o n l) (place-below l) e
     where
       go : (b : Bool) (x : Option ℕ) → ((j : ℕ) → x ≡ some j → j < length l) → orLater b x ≡ some p → p < suc (length l)
       go true x h e = let z : 0 ≡ p = cc in omega arith
@@ -84,11 +84,11 @@ module _ (o : ServerId) (n : ℕ) where
       from-here : drop j (records k b) ≡ here ∷ drop (j + 1) (records k b)
       from-here = rw (drop-cons (records k b) j (decode []) (rw length-records h), record-at k b j h, add-one)
 
-      pub place-here : isWrite o n here ≡ true → placeFrom j ≡ some j
+      pub place-here : isNumbered o n here ≡ true → placeFrom j ≡ some j
       unfolding placeOf
       place-here e = rw (from-here, e, add-zero)
 
-      pub place-later : isWrite o n here ≡ false → placeFrom j ≡ placeFrom (j + 1)
+      pub place-later : isNumbered o n here ≡ false → placeFrom j ≡ placeFrom (j + 1)
       unfolding placeOf
       place-later e = rw (from-here, e) (go (placeOf o n (drop (j + 1) (records k b))))
         where

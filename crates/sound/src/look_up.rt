@@ -4,7 +4,7 @@ ghost use Prim.Native.Nat.{_*_, _≤_, _<_};
 ghost use lib.ListN.{length};
 ghost use Rattle.notes.specs.Index.{servers};
 ghost use Rattle.notes.specs.Record.{recordSize, decode, records};
-ghost use Rattle.rules.specs.Calls.{isWrite, placeOf, standsAt, lookUpRefusal, replyUnless, found, lookUp};
+ghost use Rattle.rules.specs.Calls.{isNumbered, placeOf, standsAt, lookUpRefusal, replyUnless, found, lookUp};
 ghost use Rattle.sound.specs.Tests.{headRefusal, placed, partOf, placeReply, foundReply};
 use crate::head::Head;
 use crate::image::Image;
@@ -31,7 +31,7 @@ pub enum Found {
 // The record in 28 bytes is the origin's write of this number. One past 16 bits is no write's.
 fn is_write(b: &[u8], origin: ServerId, number: u32) -> bool
     requires { ⌜ (recordSize ≤ length (now b)) × (origin .0 < servers) ⌝ }
-    ensures { λ r. ⌜ r ≡ isWrite origin number (decode (now (b .entry))) ⌝ }
+    ensures { λ r. ⌜ r ≡ isNumbered origin number (decode (now (b .entry))) ⌝ }
 {
     if b[Record::ORIGIN] != origin.0 {
         return false;
