@@ -192,10 +192,11 @@ uint32_t ssaldorip_message_write(uint8_t n, uint8_t sender,
                                  const uint8_t *records, size_t records_len,
                                  uint8_t *out, size_t out_len);
 
-/* Reads a message record by record: copies the 28 bytes of the record at place `at` to the start of `record` and returns the place
- * behind it, or 0 if no whole record is left there. The first record stands at SSALDORIP_MESSAGE_HEADER. From there on, a
- * message that ssaldorip_message_check takes gives exactly its writes, in order, and then 0. The message is not checked here;
- * on any bytes and any place the call reads within `message` only. The other bytes of `record` stay, and at 0 or 9 all of them.
+/* Reads a message record by record: copies the 28 bytes of the record at place `at` to the start of `record` and returns the
+ * place behind it, or 0 if no whole record is left there. The first record stands at SSALDORIP_MESSAGE_HEADER. From there on,
+ * a message that ssaldorip_message_check takes gives exactly its writes, in order, and then 0. The message is not checked
+ * here; on any bytes and any place the call reads within `message` only. The other bytes of `record` stay, and at 0 or 9
+ * all of them.
  * Refuses 9 (record under 28), which no place is. */
 size_t ssaldorip_message_next(const uint8_t *message, size_t message_len, size_t at,
                               uint8_t *record, size_t record_len);

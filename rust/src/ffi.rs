@@ -53,6 +53,9 @@ extern "C" {
     fn ssaldorip_message_write(
         n: u8, sender: u8, records: *const u8, records_len: usize, out: *mut u8, out_len: usize,
     ) -> u32;
+    fn ssaldorip_message_next(
+        message: *const u8, message_len: usize, at: usize, record: *mut u8, record_len: usize,
+    ) -> usize;
     fn ssaldorip_session_raise(
         session: *mut u8, session_len: usize, reply_vector: *const u8, reply_vector_len: usize,
     ) -> u32;
@@ -180,6 +183,11 @@ pub fn message_check(message: &[u8]) -> u32 {
 pub fn message_write(n: u8, sender: u8, records: &[u8], out: &mut [u8]) -> u32 {
     // SAFETY: two slices apart from each other; the library changes `out` alone.
     unsafe { ssaldorip_message_write(n, sender, records.as_ptr(), records.len(), out.as_mut_ptr(), out.len()) }
+}
+
+pub fn message_next(message: &[u8], at: usize, record: &mut [u8]) -> usize {
+    // SAFETY: two slices apart from each other; the library changes `record` alone.
+    unsafe { ssaldorip_message_next(message.as_ptr(), message.len(), at, record.as_mut_ptr(), record.len()) }
 }
 
 pub fn session_raise(session: &mut [u8], reply_vector: &[u8]) -> u32 {

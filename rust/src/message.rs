@@ -58,17 +58,19 @@ impl Record {
     }
 }
 
-/// The records of a message or a history, in order. Made by [`Message::records`] and [`Server::writes`](crate::Server::writes).
+/// The records of a message or a history, in order: a reader that holds the bytes and the place of the next record. Made by
+/// [`Message::records`] and [`Server::writes`](crate::Server::writes).
 #[derive(Clone, Debug)]
 pub struct Records<'a> {
-    // Whole records: the makers of this type cut the bytes to size.
     bytes: &'a [u8],
+    // Whole records stand from here to the end: the makers of this type cut the bytes to size.
+    at: usize,
 }
 
 impl<'a> Records<'a> {
-    pub(crate) fn of(bytes: &'a [u8]) -> Records<'a> {
-        debug_assert_eq!(bytes.len() % Record::LEN, 0);
-        Records { bytes }
+    pub(crate) fn of(bytes: &'a [u8], at: usize) -> Records<'a> {
+        debug_assert_eq!((bytes.len() - at) % Record::LEN, 0);
+        Records { bytes, at }
     }
 }
 
@@ -76,16 +78,20 @@ impl Iterator for Records<'_> {
     type Item = Record;
 
     fn next(&mut self) -> Option<Record> {
-        if self.bytes.is_empty() {
-            return None;
+        let mut record = [0; Record::LEN];
+        match ffi::message_next(self.bytes, self.at, &mut record) {
+            // The end. The place stays, so that it is the end for ever.
+            0 => None,
+            // Never the refusal 9: `record` has its size.
+            place => {
+                self.at = place;
+                Some(Record::from_bytes(&record))
+            }
         }
-        let (first, rest) = self.bytes.split_at(Record::LEN);
-        self.bytes = rest;
-        Some(Record::from_bytes(&bytes_at(first, 0)))
     }
 
     fn size_hint(&self) -> (usize, Option<usize>) {
-        let left = self.bytes.len() / Record::LEN;
+        let left = (self.bytes.len() - self.at) / Record::LEN;
         (left, Some(left))
     }
 }
@@ -178,7 +184,7 @@ impl Message {
 
     /// The records in order.
     pub fn records(&self) -> Records<'_> {
-        Records::of(&self.bytes[Message::HEADER_LEN..])
+        Records::of(&self.bytes, Message::HEADER_LEN)
     }
 }
 

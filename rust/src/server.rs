@@ -244,7 +244,7 @@ impl Server {
     /// The writes of the history, in order. None while the server is down.
     pub fn writes(&self) -> Records<'_> {
         let held = usize::from(u16_at(&self.state, HELD_AT));
-        Records::of(&self.history[..held * Record::LEN])
+        Records::of(&self.history[..held * Record::LEN], 0)
     }
 
     /// How many writes the image's checkpoint has.

@@ -1,8 +1,8 @@
 //! The package from outside: document 01's examples 1, 2, 4, 7 and 8, each refusal, recovery from a stored image, messages.
 
 use ssaldorip::{
-    look_up, Cell, Message, NoRefusal, PhoneId, Read, Record, Refusal, Server, ServerId, Session, Status, Vector,
-    Write, HISTORY_LEN, IMAGE_LEN, STATE_LEN, WRITE_STORES,
+    look_up, Cell, Message, NoRefusal, PhoneId, Read, Record, Records, Refusal, Server, ServerId, Session, Status,
+    Vector, Write, HISTORY_LEN, IMAGE_LEN, STATE_LEN, WRITE_STORES,
 };
 
 const PHONE: PhoneId = PhoneId(5);
@@ -45,6 +45,18 @@ fn full() -> Server {
         server.read(PHONE, CELL, ZERO).unwrap();
     }
     server
+}
+
+/// Reads to the end: these records in order, the length counted down, and then none for ever.
+fn read_to_the_end(mut reader: Records, expected: &[Record]) {
+    for (read, record) in expected.iter().enumerate() {
+        assert_eq!(reader.len(), expected.len() - read);
+        assert_eq!(reader.next(), Some(*record));
+    }
+    for _ in 0..3 {
+        assert_eq!((reader.len(), reader.size_hint()), (0, (0, Some(0))));
+        assert_eq!(reader.next(), None);
+    }
 }
 
 // ---------------------------------------------------------------- document 01's examples
@@ -372,6 +384,70 @@ fn messages_and_records() {
     let empty = Message::write(1, ServerId(0), &[]).unwrap();
     assert_eq!((empty.count(), empty.records().count(), empty.as_bytes().len()), (0, 0, 8));
     assert_eq!(empty, fresh(1, 0).message().unwrap());
+}
+
+/// Record `i` of eight servers that write in turn. No two are alike, and no byte is zero in all of them.
+fn unlike(i: u16) -> Record {
+    let origin = i % 8;
+    let mut timestamp = Vector([256; 8]);
+    timestamp.0[usize::from(origin)] = i / 8 + 1;
+    Record {
+        origin: ServerId(origin as u8),
+        phone: PhoneId((i % 64) as u8),
+        cell: Cell(1023 - i),
+        value: u32::from(i) * 0x0101_0101,
+        time: u32::MAX - u32::from(i),
+        timestamp,
+    }
+}
+
+#[test]
+fn a_message_is_read_to_the_end() {
+    for count in [1, 2, 3, 64, 255, 256] {
+        let records: Vec<Record> = (0..count).map(unlike).collect();
+        let message = Message::write(8, ServerId(3), &records).unwrap();
+        read_to_the_end(message.records(), &records);
+        read_to_the_end((&message).into_iter(), &records);
+        read_to_the_end(Message::from_bytes(message.as_bytes()).unwrap().records(), &records);
+    }
+}
+
+#[test]
+fn an_empty_message_is_read_to_the_end() {
+    read_to_the_end(Message::write(8, ServerId(3), &[]).unwrap().records(), &[]);
+    let mut server = fresh(2, 0);
+    read_to_the_end(server.message().unwrap().records(), &[]);
+    read_to_the_end(server.writes(), &[]);
+    server.write(PHONE, NOTE, ZERO).unwrap();
+    server.cut().unwrap();
+    read_to_the_end(server.writes(), &[]); // Down, it holds none, whatever its history's bytes are.
+}
+
+#[test]
+fn a_servers_message_is_read_to_the_end() {
+    let mut server = fresh(8, 7);
+    let theirs: Vec<Record> = (0..240).map(unlike).filter(|r| r.origin != server.own()).collect();
+    server.update(&Message::write(8, ServerId(3), &theirs).unwrap()).unwrap();
+    let timestamp = server.write(PHONE, NOTE, ZERO).unwrap();
+    let records = [theirs, vec![Record { timestamp, ..record(7, &[]) }]].concat();
+    read_to_the_end(server.message().unwrap().records(), &records);
+    read_to_the_end(server.writes(), &records);
+
+    let full = full();
+    let records: Vec<Record> = (1..=256).map(|number| record(0, &[number])).collect();
+    read_to_the_end(full.message().unwrap().records(), &records);
+    read_to_the_end(full.writes(), &records);
+}
+
+#[test]
+fn a_copied_reader_reads_on_alone() {
+    let records: Vec<Record> = (0..5).map(unlike).collect();
+    let message = Message::write(8, ServerId(3), &records).unwrap();
+    let mut reader = message.records();
+    reader.next();
+    let copy = reader.clone();
+    read_to_the_end(reader, &records[1..]);
+    read_to_the_end(copy, &records[1..]);
 }
 
 #[test]

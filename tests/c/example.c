@@ -91,6 +91,15 @@ static void send_message(const struct server *from, struct server *to) {
     done("update", ssaldorip_update(BUFFERS(to), to->own, message, length));
 }
 
+/* The reader of a message, from its first record to its end. */
+static void print_records(const uint8_t *message, size_t length) {
+    uint8_t record[SSALDORIP_RECORD_SIZE];
+    size_t at = SSALDORIP_MESSAGE_HEADER;
+    /* The record has its size, so that nothing is refused: the reading ends with 0. */
+    while ((at = ssaldorip_message_next(message, length, at, record, sizeof record)) != 0)
+        printf("a record: origin %d, cell %u, value %" PRIu32 "\n", record[0], u16_at(record + 2), u32_at(record + 4));
+}
+
 static void print_look_up(const struct server *s, uint8_t origin, uint32_t number) {
     uint32_t place = ssaldorip_look_up(s->image, sizeof s->image, origin, number);
     if (place >= 1 && place <= SSALDORIP_TOO_SHORT) done("look-up", place);
@@ -157,11 +166,12 @@ int main(void) {
     print_status(&zeroth);
     read_note(&zeroth, session);
 
-    /* The phone app writes a message of its own from records, here those of the first server's history. */
+    /* The phone app writes a message of its own from records, here those of the first server's history, and reads it. */
     memcpy(records, first.history, sizeof records);
     done("message_write", ssaldorip_message_write(SERVERS, 1, records, sizeof records, message, sizeof message));
     printf("a message of %u writes in %u bytes, checked: %" PRIu32 "\n", u16_at(message + 2), u16_at(message + 6),
            ssaldorip_message_check(message, sizeof message));
+    print_records(message, sizeof message);
     printf("one byte less: refused %" PRIu32 "\n", ssaldorip_message_check(message, sizeof message - 1));
     return 0;
 }

@@ -95,6 +95,13 @@ export!(ssaldorip_message_write(n: u8, sender: u8, r: *const u8, rl: usize, o: *
     put(o, ol, &out);
     number
 });
+// Not by the macro: it returns a size.
+#[no_mangle]
+pub unsafe extern "C" fn ssaldorip_message_next(m: *const u8, ml: usize, at: usize, r: *mut u8, rl: usize) -> usize {
+    let (number, record) = model::message_next(slice(m, ml), at, slice(r, rl));
+    put(r, rl, &record);
+    number
+}
 export!(ssaldorip_session_raise(s: *mut u8, sl: usize, v: *const u8, vl: usize,) {
     let (number, raised) = model::session_raise(slice(s, sl), slice(v, vl));
     put(s, sl, &raised);

@@ -41,7 +41,7 @@ impl Lent {
 }
 
 /// The buffers of any call. `given` is the one lent to be read (asked vector, message,
-/// records, reply vector), `out` the one lent to be changed (reply, output, session).
+/// records, reply vector), `out` the one lent to be changed (reply, output, record, session).
 #[derive(Clone, Default)]
 pub struct Lents {
     pub state: Lent,
@@ -58,7 +58,7 @@ impl Lents {
             ("history", &self.history),
             ("image", &self.image),
             ("asked, message, records or reply vector", &self.given),
-            ("reply, output or session", &self.out),
+            ("reply, output, record or session", &self.out),
         ]
     }
 }
@@ -79,6 +79,7 @@ pub enum Call {
     Message,
     MessageCheck,
     MessageWrite { n: u8, sender: u8 },
+    MessageNext { at: usize },
     SessionRaise,
 }
 
@@ -97,11 +98,12 @@ pub enum Kind {
     Message,
     MessageCheck,
     MessageWrite,
+    MessageNext,
     SessionRaise,
 }
 
 impl Kind {
-    pub const ALL: [Kind; 14] = [
+    pub const ALL: [Kind; 15] = [
         Kind::Start,
         Kind::Read,
         Kind::ReadCut,
@@ -115,6 +117,7 @@ impl Kind {
         Kind::Message,
         Kind::MessageCheck,
         Kind::MessageWrite,
+        Kind::MessageNext,
         Kind::SessionRaise,
     ];
 }
@@ -135,15 +138,16 @@ impl Call {
             Call::Message => Kind::Message,
             Call::MessageCheck => Kind::MessageCheck,
             Call::MessageWrite { .. } => Kind::MessageWrite,
+            Call::MessageNext { .. } => Kind::MessageNext,
             Call::SessionRaise => Kind::SessionRaise,
         }
     }
 
-    pub fn run(&self, library: &dyn Library, lents: &mut Lents) -> u32 {
+    pub fn run(&self, library: &dyn Library, lents: &mut Lents) -> usize {
         let Lents { state, history, image, given, out } = lents;
         let (state, history, image) = (state.bytes_mut(), history.bytes_mut(), image.bytes_mut());
         let (given, out) = (given.bytes(), out.bytes_mut());
-        match *self {
+        let number = match *self {
             Call::Start { n, own } => library.start(n, own, state, history, image),
             Call::Read { server, phone, cell } => {
                 library.read(state, history, image, server, phone, cell, given, out)
@@ -165,8 +169,11 @@ impl Call {
             Call::Message => library.message(state, history, image, out),
             Call::MessageCheck => library.message_check(given),
             Call::MessageWrite { n, sender } => library.message_write(n, sender, given, out),
+            // The one number of more than 32 bits: all of them are compared.
+            Call::MessageNext { at } => return library.message_next(given, at, out),
             Call::SessionRaise => library.session_raise(out, given),
-        }
+        };
+        number as usize
     }
 }
 
@@ -182,7 +189,7 @@ impl fmt::Display for Failure {
 /// Runs the call on the library and on the model, from the same bytes. They must return
 /// the same number and leave the same bytes, guards included. `lents` is then what the
 /// library left.
-pub fn compare(library: &dyn Library, call: &Call, lents: &mut Lents) -> Result<u32, Failure> {
+pub fn compare(library: &dyn Library, call: &Call, lents: &mut Lents) -> Result<usize, Failure> {
     let before = lents.clone();
     let mut expected = lents.clone();
     let number = call.run(library, lents);

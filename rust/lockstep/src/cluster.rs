@@ -20,28 +20,37 @@ pub struct Runner<'a> {
 }
 
 impl Runner<'_> {
-    fn run(&mut self, hostile: bool, call: Call, lents: &mut Lents) -> Result<u32, Failure> {
+    fn run(&mut self, hostile: bool, call: Call, lents: &mut Lents) -> Result<usize, Failure> {
         let number = if self.model { compare(self.library, &call, lents)? } else { call.run(self.library, lents) };
         self.tally.returned(hostile, call.kind(), number);
         Ok(number)
     }
 
-    pub fn call(&mut self, call: Call, lents: &mut Lents) -> Result<u32, Failure> {
+    pub fn call(&mut self, call: Call, lents: &mut Lents) -> Result<usize, Failure> {
         self.run(false, call, lents)
     }
 
     /// The same, with all reasons to refuse counted first. The first of them must be what
     /// the call returns.
-    pub fn hostile_call(&mut self, call: Call, lents: &mut Lents) -> Result<u32, Failure> {
+    pub fn hostile_call(&mut self, call: Call, lents: &mut Lents) -> Result<usize, Failure> {
         let first = self.tally.reasons(&call, lents);
         let number = self.run(true, call, lents)?;
-        let found = matches!(call, Call::LookUp { .. }) && number >= model::Header::LENGTH as u32;
-        if self.model && number != first && !(found && first == 0) {
+        let right = first.map_or_else(|| is_done(&call, number), |first| number == first as usize);
+        if self.model && !right {
             return Err(Failure(format!(
-                "call {call:?}: library and model return {number}, but the first reason present is {first}"
+                "call {call:?}: library and model return {number}, but the first reason present is {first:?}"
             )));
         }
         Ok(number)
+    }
+}
+
+/// Whether a call returns this number if it has no reason not to be done.
+fn is_done(call: &Call, number: usize) -> bool {
+    match *call {
+        Call::LookUp { .. } => number == 0 || number >= Header::LENGTH,
+        Call::MessageNext { at } => number == at + Record::LENGTH,
+        _ => number == 0,
     }
 }
 
@@ -315,7 +324,7 @@ impl<'a, 'b> Cluster<'a, 'b> {
 
     // ------------------------------------------------------------ calls
 
-    fn at(&mut self, server: usize, call: Call, given: &[u8], out: usize) -> Result<(u32, Vec<u8>), Failure> {
+    fn at(&mut self, server: usize, call: Call, given: &[u8], out: usize) -> Result<(usize, Vec<u8>), Failure> {
         let memory = &mut self.servers[server].memory;
         let more = self.r.pick(&[0, 0, 1, 3]);
         let given_length = match call {
@@ -531,10 +540,29 @@ impl<'a, 'b> Cluster<'a, 'b> {
         if self.run.call(Call::MessageCheck, &mut lents)? != 0 {
             return failed(format!("server {server}: its own message is malformed"));
         }
+        self.read_to_the_end(server, lents)?;
         self.messages.push(message);
         if self.messages.len() > IN_FLIGHT {
             let lost = self.r.below(IN_FLIGHT);
             self.messages.swap_remove(lost);
+        }
+        Ok(())
+    }
+
+    /// The server's own message, given in `lents`, is read as the server's history.
+    fn read_to_the_end(&mut self, server: usize, mut lents: Lents) -> Result<(), Failure> {
+        let length = Record::LENGTH + self.r.pick(&[0, 0, 1, 3]);
+        lents.out = Lent::new(&mut self.r, &[], length);
+        let mut at = model::MESSAGE_HEADER;
+        for record in history_of(&self.servers[server].memory) {
+            let behind = self.run.call(Call::MessageNext { at }, &mut lents)?;
+            if behind != at + Record::LENGTH || lents.out.bytes()[..Record::LENGTH] != record {
+                return failed(format!("server {server}: its message is not read as its history at {at}"));
+            }
+            at = behind;
+        }
+        if self.run.call(Call::MessageNext { at }, &mut lents)? != 0 {
+            return failed(format!("server {server}: its message is read past its history's end"));
         }
         Ok(())
     }
@@ -683,7 +711,6 @@ impl<'a, 'b> Cluster<'a, 'b> {
             let number = record.number().unwrap_or(0) as u32;
             let (place, _) = self.at(server, Call::LookUp { origin: server as u8, number }, &[], 0)?;
             let image = self.servers[server].memory.image.bytes();
-            let place = place as usize;
             if place < Header::LENGTH || image[place..place + Record::LENGTH] != bytes {
                 return failed(format!("server {server}: write {number} was replied to and is not looked up"));
             }

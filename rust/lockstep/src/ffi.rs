@@ -64,6 +64,7 @@ pub trait Library {
     fn message(&self, state: &[u8], history: &[u8], image: &[u8], out: &mut [u8]) -> u32;
     fn message_check(&self, message: &[u8]) -> u32;
     fn message_write(&self, n: u8, sender: u8, records: &[u8], out: &mut [u8]) -> u32;
+    fn message_next(&self, message: &[u8], at: usize, record: &mut [u8]) -> usize;
     fn session_raise(&self, session: &mut [u8], reply_vector: &[u8]) -> u32;
 }
 
@@ -218,6 +219,12 @@ impl Library for Model {
         number
     }
 
+    fn message_next(&self, message: &[u8], at: usize, record: &mut [u8]) -> usize {
+        let (number, read) = model::message_next(message, at, record);
+        record.copy_from_slice(&read);
+        number
+    }
+
     fn session_raise(&self, session: &mut [u8], reply_vector: &[u8]) -> u32 {
         let (number, raised) = model::session_raise(session, reply_vector);
         session.copy_from_slice(&raised);
@@ -244,6 +251,7 @@ pub mod real {
         fn ssaldorip_message(state: *const u8, state_len: usize, history: *const u8, history_len: usize, image: *const u8, image_len: usize, out: *mut u8, out_len: usize) -> u32;
         fn ssaldorip_message_check(message: *const u8, message_len: usize) -> u32;
         fn ssaldorip_message_write(n: u8, sender: u8, records: *const u8, records_len: usize, out: *mut u8, out_len: usize) -> u32;
+        fn ssaldorip_message_next(message: *const u8, message_len: usize, at: usize, record: *mut u8, record_len: usize) -> usize;
         fn ssaldorip_session_raise(session: *mut u8, session_len: usize, reply_vector: *const u8, reply_vector_len: usize) -> u32;
     }
 
@@ -367,6 +375,10 @@ pub mod real {
 
         fn message_write(&self, n: u8, sender: u8, records: &[u8], out: &mut [u8]) -> u32 {
             call!(ssaldorip_message_write: n sender (records) (mut out))
+        }
+
+        fn message_next(&self, message: &[u8], at: usize, record: &mut [u8]) -> usize {
+            call!(ssaldorip_message_next: (message) at (mut record))
         }
 
         fn session_raise(&self, session: &mut [u8], reply_vector: &[u8]) -> u32 {

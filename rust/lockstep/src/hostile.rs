@@ -5,7 +5,7 @@ use crate::make::{self, Made};
 use crate::model::{self, Header, Message, Record, State};
 use crate::random::Random;
 
-const WEIGHTS: [usize; 14] = [3, 14, 12, 14, 12, 24, 4, 7, 4, 8, 5, 4, 6, 2];
+const WEIGHTS: [usize; 15] = [3, 14, 12, 14, 12, 24, 4, 7, 4, 8, 5, 4, 6, 5, 2];
 
 /// A case from its own generator alone.
 pub fn case(r: &mut Random) -> (Call, Lents) {
@@ -149,6 +149,7 @@ fn on(r: &mut Random, kind: Kind, made: &Made) -> (Call, Lents) {
             Call::MessageCheck
         }
         Kind::MessageWrite => message_write(r, made, &mut lents),
+        Kind::MessageNext => message_next(r, &block, made, &mut lents),
         Kind::SessionRaise => {
             let (session, reply_vector) = (asked(r, &block), asked(r, &block));
             lents.out = lent(r, &session, model::VECTOR);
@@ -303,4 +304,30 @@ fn message_write(r: &mut Random, made: &Made, lents: &mut Lents) -> Call {
     lents.out = if r.one_in(3) { lent(r, &[], size.min(8_000)) } else { Lent::new(r, &[], size.min(8_000)) };
     lents.given = Lent::exactly(r, &records);
     Call::MessageWrite { n, sender }
+}
+
+/// Any place in any message bytes.
+fn message_next(r: &mut Random, block: &State, made: &Made, lents: &mut Lents) -> Call {
+    let message = message(r, block, made);
+    let end = message.len();
+    // A record's place, or the end of the last whole one.
+    let right = model::MESSAGE_HEADER + r.from_to(0, end.saturating_sub(8) / 28) * Record::LENGTH;
+    let at = match r.below(12) {
+        0 => 0,
+        1 => model::MESSAGE_HEADER,
+        2 => end,
+        3 => end + r.from_to(1, 40),
+        // 27, 28 or 29 bytes are left.
+        4 | 5 => end.saturating_sub(r.from_to(27, 29)),
+        6 => end.saturating_sub(r.from_to(1, 28)),
+        // The place behind is past the greatest number, or just not.
+        7 => usize::MAX - r.below(64),
+        // A right place but for its high bits.
+        8 => right + r.pick(&[1 << 16, 1 << 32, 1 << 63]),
+        9 => r.from_to(0, end),
+        _ => right,
+    };
+    lents.given = Lent::exactly(r, &message);
+    lents.out = lent(r, &[], Record::LENGTH);
+    Call::MessageNext { at }
 }

@@ -931,6 +931,20 @@ pub fn message_write(n: u8, sender: u8, records: &[u8], out: &[u8]) -> (u32, Vec
     or_unchanged(made(), out.to_vec())
 }
 
+/// "The app reads it through a reader that holds the message and the place of the next
+/// record": the record's 28 bytes, and the place of the one after it; 0 if not all 28 are
+/// there.
+pub fn message_next(message: &[u8], at: usize, record: &[u8]) -> (usize, Vec<u8>) {
+    if record.len() < Record::LENGTH {
+        return (SHORT as usize, record.to_vec());
+    }
+    let whole = message.get(at..).and_then(|rest| rest.get(..Record::LENGTH));
+    match whole {
+        Some(bytes) => (at + Record::LENGTH, [bytes, &record[Record::LENGTH..]].concat()),
+        None => (0, record.to_vec()),
+    }
+}
+
 /// "A read's reply raises R to the maximum, position by position."
 pub fn session_raise(session: &[u8], reply_vector: &[u8]) -> (u32, Vec<u8>) {
     let raised = || {
@@ -973,6 +987,8 @@ mod tests {
         assert_eq!(listing(&LISTED), "servers 2 sender 0 writes 1\n0 1 5 300 7 900 1 0\n");
         assert_eq!(listing(&LISTED[..35]), "refused 6\n");
         assert_eq!(message_write(2, 0, &LISTED[8..], &[9; 37]), (DONE, [&LISTED[..], &[9]].concat()));
+        assert_eq!(message_next(&LISTED, 8, &[9; 29]), (36, [&LISTED[8..], &[9]].concat()));
+        assert_eq!(message_next(&LISTED, 36, &[9; 29]), (0, vec![9; 29]));
     }
 
     #[test]

@@ -36,6 +36,12 @@ pub enum Cause {
     LogFull,
     ShortOut,
     CutCount,
+    /// A reader's place: at the end, with a part of a record left, past the end, or so far
+    /// that the place behind a record has no number.
+    AtEnd,
+    PartLeft,
+    PastEnd,
+    PlaceTooGreat,
 }
 
 /// The places of document 01's order, first to last.
@@ -59,6 +65,8 @@ pub enum Reason {
     Output9,
     /// 1 for the cut count
     Cut1,
+    /// No refusal: the 0 of a reader that has no whole record left
+    End0,
 }
 
 impl Cause {
@@ -77,6 +85,7 @@ impl Cause {
             LogFull => Reason::LogFull5,
             ShortOut => Reason::Output9,
             CutCount => Reason::Cut1,
+            AtEnd | PartLeft | PastEnd | PlaceTooGreat => Reason::End0,
         }
     }
 }
@@ -93,6 +102,7 @@ impl Reason {
             Reason::OwnAhead8 => 8,
             Reason::Full4 => 4,
             Reason::LogFull5 => 5,
+            Reason::End0 => 0,
         }
     }
 
@@ -139,6 +149,7 @@ pub fn find(call: &Call, lents: &Lents) -> Found {
         Call::MessageWrite { n, sender } => {
             message_write(&mut found, n, sender, lents.given.bytes(), lents.out.bytes().len())
         }
+        Call::MessageNext { at } => message_next(&mut found, lents.given.bytes(), at, lents.out.bytes().len()),
         Call::SessionRaise => {
             found.note(lents.out.bytes().len() < model::VECTOR, Cause::ShortSession);
             found.note(lents.given.bytes().len() < model::VECTOR, Cause::ShortReplyVector);
@@ -182,6 +193,16 @@ fn message_write(found: &mut Found, n: u8, sender: u8, records: &[u8], room: usi
     let malformed = records.chunks_exact(Record::LENGTH).any(|r| !Record::parse(r).well_formed(of));
     found.note(!records.len().is_multiple_of(Record::LENGTH) || count > 256 || malformed, Cause::Records);
     found.note(room < model::MESSAGE_HEADER + count * Record::LENGTH, Cause::ShortOut);
+}
+
+fn message_next(found: &mut Found, message: &[u8], at: usize, room: usize) {
+    found.note(room < Record::LENGTH, Cause::ShortOut);
+    let end = message.len();
+    let behind = at.checked_add(Record::LENGTH);
+    found.note(behind.is_none(), Cause::PlaceTooGreat);
+    found.note(behind.is_some() && at > end, Cause::PastEnd);
+    found.note(at == end, Cause::AtEnd);
+    found.note(at < end && behind > Some(end), Cause::PartLeft);
 }
 
 fn at_a_server(found: &mut Found, call: &Call, lents: &Lents) {

@@ -25,20 +25,22 @@ pub struct Tally {
 }
 
 impl Tally {
-    pub fn returned(&mut self, hostile: bool, kind: Kind, number: u32) {
-        self.cases += 1;
-        // A place that look_up found counts as 10.
-        *self.numbers.entry((hostile, kind, number.min(10))).or_default() += 1;
+    pub fn returned(&mut self, hostile: bool, kind: Kind, number: usize) {
+        // A cluster's message that is read to its end is one case, however long it is: the
+        // other calls would be few among its records.
+        let read_on = !hostile && kind == Kind::MessageNext && number != 0;
+        self.cases += !read_on as u64;
+        // A place counts as 10.
+        *self.numbers.entry((hostile, kind, number.min(10) as u32)).or_default() += 1;
     }
 
     /// Counts the reasons of a case before its call. The first of them, in document 01's
-    /// order, is what the call should return; 0 if there are none (a look-up may then
-    /// return a place).
-    pub fn reasons(&mut self, call: &Call, lents: &Lents) -> u32 {
+    /// order, is what the call should return; none if there are none.
+    pub fn reasons(&mut self, call: &Call, lents: &Lents) -> Option<u32> {
         let kind = call.kind();
         let found = reasons::find(call, lents);
         let reasons = found.reasons();
-        let Some(&first) = reasons.first() else { return 0 };
+        let &first = reasons.first()?;
         for &other in &reasons[1..] {
             *self.pairs.entry((kind, first, other)).or_default() += 1;
         }
@@ -48,7 +50,7 @@ impl Tally {
                 *self.faults.entry((found.up, *fault)).or_default() += 1;
             }
         }
-        first.number()
+        Some(first.number())
     }
 
     /// What was not seen and must be, in a full run.
@@ -102,7 +104,7 @@ impl Tally {
         let mut text = String::new();
         for hostile in [false, true] {
             let of = if hostile { "hostile cases" } else { "clusters" };
-            text += &format!("numbers returned in {of} (10 is a place that look_up found)\n");
+            text += &format!("numbers returned in {of} (10 is a place, of look_up or message_next)\n");
             for kind in Kind::ALL {
                 text += &format!("  {:13}", format!("{kind:?}"));
                 for number in 0..=10 {
@@ -159,7 +161,7 @@ impl Tally {
 }
 
 /// What genuine clusters meet (7 and 8 cannot come of genuine messages).
-const MET_IN_CLUSTERS: [(Kind, u32); 22] = [
+const MET_IN_CLUSTERS: [(Kind, u32); 24] = [
     (Kind::Read, 0),
     (Kind::Read, 1),
     (Kind::Read, 2),
@@ -182,6 +184,8 @@ const MET_IN_CLUSTERS: [(Kind, u32); 22] = [
     (Kind::Update, 6),
     (Kind::Recover, 0),
     (Kind::Recover, 2),
+    (Kind::MessageNext, 0),
+    (Kind::MessageNext, 10),
 ];
 
 /// The reasons a call can give, in order.
@@ -199,6 +203,7 @@ fn reasons_of(kind: Kind) -> &'static [Reason] {
         Kind::LookUp => &[Short9, State6, Range1],
         Kind::MessageCheck => &[Message6],
         Kind::MessageWrite => &[Range1, Message6, Output9],
+        Kind::MessageNext => &[Output9, End0],
         Kind::SessionRaise => &[Short9],
     }
 }
@@ -258,6 +263,7 @@ fn causes_that_can_be_alone() -> Vec<(Kind, Cause)> {
     add(Kind::LookUp, &[ShortImage, Unsound, Origin]);
     add(Kind::MessageCheck, &[Message]);
     add(Kind::MessageWrite, &[N, Sender, Records, ShortOut]);
+    add(Kind::MessageNext, &[ShortOut, AtEnd, PartLeft, PastEnd, PlaceTooGreat]);
     add(Kind::SessionRaise, &[ShortSession, ShortReplyVector]);
     causes
 }

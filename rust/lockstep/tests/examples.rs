@@ -292,6 +292,30 @@ fn the_listing_examples_message() {
 }
 
 #[test]
+fn a_message_is_read_record_by_record() {
+    for library in libraries() {
+        let mut server = Server::fresh(library, 2, 0);
+        server.write(5, 300, 7).unwrap();
+        server.write(6, 301, 8).unwrap();
+        let message = server.message();
+        let mut record = [0xee; 30];
+        assert_eq!(library.message_next(&message, 8, &mut record), 36);
+        assert_eq!(record[..], [&server.history[..28], &[0xee; 2]].concat());
+        assert_eq!(library.message_next(&message, 36, &mut record), 64);
+        assert_eq!(record[..], [&server.history[28..56], &[0xee; 2]].concat());
+        let last = record;
+        for at in [64, 37, 63, 65, usize::MAX - 27, usize::MAX] {
+            assert_eq!(library.message_next(&message, at, &mut record), 0);
+        }
+        assert_eq!(library.message_next(&[], 0, &mut record), 0);
+        for at in [8, 64] {
+            assert_eq!(library.message_next(&message, at, &mut record[..27]), 9);
+        }
+        assert_eq!(record, last);
+    }
+}
+
+#[test]
 fn a_session_is_raised_position_by_position() {
     for library in libraries() {
         let mut session = bytes(&[3, 0, 256, 7]);

@@ -3,8 +3,9 @@
 //! lockstep [--seed S] [--steps N] [--hostile N] [--long]
 //!          [--only-cluster I] [--only-hostile I] [--trace] [--no-model]
 //!
-//! --steps and --hostile count compared calls. --no-model runs the library alone, with the
-//! checks of the demands only (to try these checks on wrong libraries).
+//! --steps and --hostile count compared calls, a cluster's message read to its end as one.
+//! --no-model runs the library alone, with the checks of the demands only (to try these
+//! checks on wrong libraries).
 
 use ssaldorip_tests::case::Failure;
 use ssaldorip_tests::cluster::{Cluster, Runner};
