@@ -24,10 +24,10 @@ use Rattle.rules.specs.Image.{checkpoint, log}
 use Rattle.rules.specs.Sound.{recovered, recover, later, sound}
 use Rattle.rules.specs.Request.{isWrite, served, requestRefusals, request}
 use Rattle.rules.specs.Step.{plainRefusals, recovery, step}
-use Rattle.rules.proofs.Keeps.{recoveredIn, recovered-writes}
-use Rattle.rules.proofs.Passed as passed
-use Rattle.rules.proofs.Passed.{asked, plain}
-use Rattle.rules.proofs.Writes.{length-tally, at-tally}
+use Rattle.laws.proofs.Keeps.{recoveredIn, recovered-writes}
+use Rattle.laws.proofs.Passed as passed
+use Rattle.laws.proofs.Passed.{asked, plain}
+use Rattle.laws.proofs.Writes.{length-tally, at-tally}
 use Rattle.farm.specs.Farm.{Asked, Begun, Farm, run, stepAt, begunRecord}
 use Rattle.farm.specs.Demand.{Reached, Recovers, Recovery, ReadsStay, Standing, inHistory, inMessage, OneName, AllSound}
 use Rattle.farm.proofs.Prefix.{each-mem, mem-keep, keep-mem}

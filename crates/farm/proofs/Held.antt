@@ -13,8 +13,8 @@ use Rattle.rules.specs.Writes.{server, writesOf}
 use Rattle.rules.specs.Memory.{Memory, writes}
 use Rattle.rules.specs.Image.{historySize, imageSize}
 use Rattle.rules.specs.Sound as soundness
-use Rattle.rules.proofs.Keeps.{recoveredIn}
-use Rattle.rules.proofs.Stays.{Bytes}
+use Rattle.laws.proofs.Keeps.{recoveredIn}
+use Rattle.laws.proofs.Stays.{Bytes}
 use Rattle.farm.proofs.Prefix.{Pre, pre-trans}
 
 -- a server's memory as the farm has it

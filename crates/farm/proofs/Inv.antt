@@ -13,7 +13,7 @@ use Rattle.notes.proofs.Pieces.{Each}
 use Rattle.rules.specs.Writes.{server, writesOf}
 use Rattle.rules.specs.Memory.{Memory}
 use Rattle.rules.specs.Sound as soundness
-use Rattle.rules.proofs.Writes.{From, writesOf-append}
+use Rattle.laws.proofs.Writes.{From, writesOf-append}
 use Rattle.farm.specs.Farm.{Asked, Farm, Told, changed, begunRecord}
 use Rattle.farm.proofs.Prefix.{Pre, pre-refl, pre-append, pre-trans, changed-same, changed-other, changed-each}
 use Rattle.farm.proofs.Held.{Sane, keeps, Kept, Numbered, Held, held-grows}

@@ -24,15 +24,15 @@ use Rattle.rules.specs.Answer.{Effect, finished, unless, isDown}
 use Rattle.rules.specs.Sound.{recover}
 use Rattle.rules.specs.Step.{Taken, taken, takenFrom, updated, updateRefusals, update, plainRefusals, cut, recovery, step}
 use Rattle.rules.specs.Sound as soundness
-use Rattle.rules.proofs.Passed.{brought-known, plain}
-use Rattle.rules.proofs.Writes.{writesOf-append}
+use Rattle.laws.proofs.Passed.{brought-known, plain}
+use Rattle.laws.proofs.Writes.{writesOf-append}
 use Rattle.farm.specs.Farm.{Farm, changed, stepAt, plainly}
 use Rattle.farm.proofs.Prefix.{Pre, each-mem, changed-same, changed-other}
 use Rattle.farm.proofs.Held.{Sane, keeps, Kept}
 use Rattle.farm.proofs.Known.{Genuine, flight-grows, performed-grows}
 use Rattle.farm.proofs.Taken.{taken-held, mine-stays}
 use Rattle.farm.proofs.Inv.{lists-run, numbered, Inv, Onward, still, next, grows, seats-next, deeds-next}
-use Rattle.rules.proofs.Outcomes.{refusal-number, unsound-refused, refused-same}
+use Rattle.laws.proofs.Outcomes.{refusal-number, unsound-refused, refused-same}
 use Rattle.farm.proofs.Steps.{step-sane, kept-same, kept-more, kept-cut, kept-update, kept-recover, kept-vector, servers-few}
 
 -- ---- a call that is done was not refused

@@ -12,7 +12,7 @@ use borrow.Author.Tests.{eq-eqb, ne-eqb}
 use lib.ListN.{length, take, drop, getElem?, length-append, take-append-drop}
 use Rattle.notes.proofs.Pieces.{Each}
 use Rattle.rules.specs.Writes.{keep, keepIf}
-use Rattle.rules.proofs.Lists.{keep-append}
+use Rattle.laws.proofs.Lists.{keep-append}
 use Rattle.farm.specs.Farm.{changed}
 
 module _ {A : Type 0} where

@@ -28,15 +28,15 @@ use Rattle.rules.specs.Memory.{Memory, writes}
 use Rattle.rules.specs.Answer.{Effect, unless}
 use Rattle.rules.specs.Request.{newRecord, noted, cleared, due, ready, performed, written, served, cutAfter, requestRefusals, cutRefusal, request, requestCut}
 use Rattle.rules.specs.Step.{step}
-use Rattle.rules.proofs.Passed as passed
-use Rattle.rules.proofs.Passed.{asked, asked-cut}
-use Rattle.rules.proofs.Reading.{noted-is}
-use Rattle.rules.proofs.Writes.{length-tally, at-tally, writesOf-here, writesOf-other}
+use Rattle.laws.proofs.Passed as passed
+use Rattle.laws.proofs.Passed.{asked, asked-cut}
+use Rattle.laws.proofs.Reading.{noted-is}
+use Rattle.laws.proofs.Writes.{length-tally, at-tally, writesOf-here, writesOf-other}
 use Rattle.farm.specs.Farm.{Asked, Replied, Begun, Farm, changed, askable, stepAt, beginning, recordOf, serving, servingCut}
 use Rattle.farm.proofs.Prefix.{Pre, mem-each, each-mem, changed-same, changed-other}
 use Rattle.farm.proofs.Held.{Sane, keeps, Kept, Held}
 use Rattle.farm.proofs.Known.{Grows, Fair, Knows, Asks, flight-grows, performed-grows, asks-began}
-use Rattle.rules.proofs.Outcomes.{refused-same}
+use Rattle.laws.proofs.Outcomes.{refused-same}
 use Rattle.farm.proofs.Steps.{keeps-up, kept-same, kept-more, kept-read, kept-write, kept-cut-read, kept-cut-write, kept-vector, servers-few}
 use Rattle.farm.proofs.Inv.{numbered, Seats, Inv, Onward, mine, grows, seats-next, deeds-next}
 use Rattle.farm.proofs.Moves.{done-none, changed-id, step-or-not, below-none, at-server, before-sane, after-sane, only-own}

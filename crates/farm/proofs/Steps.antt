@@ -36,18 +36,18 @@ use Rattle.rules.specs.Image.{historySize, imageSize, headerOk, checkpoint, log
 use Rattle.rules.specs.Sound.{recovered, recoveredState, recoveredHistory, recover, isZero, suits, soundUp, soundDown, sound}
 use Rattle.rules.specs.Request.{newRecord, written, noted, cleared, due, ownPlan, plan, ready, performed, served, cutAfter}
 use Rattle.rules.specs.Step.{takenFrom, updated, step}
-use Rattle.rules.proofs.Phones.{reads-cleared}
-use Rattle.rules.proofs.Writes.{InTurn, From, same-server}
-use Rattle.rules.proofs.Stores.{Shows, length-stored, laid-of}
-use Rattle.rules.proofs.Sound.{Facts, facts, kept-all, log-empty, own-again, others-none}
-use Rattle.rules.proofs.Open.{Up, opened, own-low, recovers-lacked}
-use Rattle.rules.proofs.Passed.{Asked, Brought}
-use Rattle.rules.proofs.Newest.{like}
-use Rattle.rules.proofs.Reading.{noted-is, cp, OnTheWay, before, between, after, checkpoint-way}
-use Rattle.rules.proofs.Writing as writing
-use Rattle.rules.proofs.Keeps.{appended-new, recoveredIn, recovered-fit, recovered-writes, step-sound}
-use Rattle.rules.proofs.Stays.{step-bytes}
-use Rattle.rules.proofs.Outcomes.{step-cases}
+use Rattle.laws.proofs.Phones.{reads-cleared}
+use Rattle.laws.proofs.Writes.{InTurn, From, same-server}
+use Rattle.laws.proofs.Stores.{Shows, length-stored, laid-of}
+use Rattle.laws.proofs.Sound.{Facts, facts, kept-all, log-empty, own-again, others-none}
+use Rattle.laws.proofs.Open.{Up, opened, own-low, recovers-lacked}
+use Rattle.laws.proofs.Passed.{Asked, Brought}
+use Rattle.laws.proofs.Newest.{like}
+use Rattle.laws.proofs.Reading.{noted-is, cp, OnTheWay, before, between, after, checkpoint-way}
+use Rattle.laws.proofs.Writing as writing
+use Rattle.laws.proofs.Keeps.{appended-new, recoveredIn, recovered-fit, recovered-writes, step-sound}
+use Rattle.laws.proofs.Stays.{step-bytes}
+use Rattle.laws.proofs.Outcomes.{step-cases}
 use Rattle.farm.proofs.Prefix.{Pre, pre-refl, pre-take, pre-keep}
 use Rattle.farm.proofs.Held.{Sane, keeps, Kept}
 

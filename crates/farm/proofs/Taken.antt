@@ -23,8 +23,8 @@ use Rattle.rules.specs.declared.answer.Refusal.{Refusal}
 use Rattle.rules.specs.declared.answer.Refusal.the-variants.{Gap, OwnAhead}
 use Rattle.rules.specs.Writes.{keep, counting, server, writesOf, countOf, tally}
 use Rattle.rules.specs.Step.{Turn, skipped, appended, refuses, atTurn, vectorAfter, Taken, andThen, taken}
-use Rattle.rules.proofs.Writes.{From, from-drop, at-tally, tally-more, same-server, writesOf-append, writesOf-here, writesOf-other, countOf-append}
-use Rattle.rules.proofs.Sound.{Next, formed-origin}
+use Rattle.laws.proofs.Writes.{From, from-drop, at-tally, tally-more, same-server, writesOf-append, writesOf-here, writesOf-other, countOf-append}
+use Rattle.laws.proofs.Sound.{Next, formed-origin}
 use Rattle.farm.proofs.Prefix.{Pre, append-parts, pre-length, pre-pre, pre-more, pre-mem, mem-keep, keep-mem}
 use Rattle.farm.proofs.Held.{Numbered, Held}
 

@@ -29,11 +29,11 @@ use Rattle.rules.specs.Answer.{refusalReply, head, isDown}
 use Rattle.rules.specs.Memory.{Memory, writes}
 use Rattle.rules.specs.Sound.{sound}
 use Rattle.rules.specs.Calls.{ownMessage, message}
-use Rattle.rules.proofs.Octets.{below-cons, below-append, below-toBytes, below-recordBytes}
-use Rattle.rules.proofs.Stores.{shows-server}
-use Rattle.rules.proofs.Open.{Up, opened}
-use Rattle.rules.proofs.Passed.{head-known, head-right}
-use Rattle.rules.proofs.Outcomes.{refusal-number}
+use Rattle.laws.proofs.Octets.{below-cons, below-append, below-toBytes, below-recordBytes}
+use Rattle.laws.proofs.Stores.{shows-server}
+use Rattle.laws.proofs.Open.{Up, opened}
+use Rattle.laws.proofs.Passed.{head-known, head-right}
+use Rattle.laws.proofs.Outcomes.{refusal-number}
 use Rattle.farm.proofs.Held.{Sane}
 
 -- the bytes of a message of records whose numbers fit

@@ -29,13 +29,13 @@ use Rattle.rules.specs.Image.{historySize, imageSize, logMost, logCount}
 use Rattle.rules.specs.Sound.{recover, sound}
 use Rattle.rules.specs.Request.{isWrite, plan, served, cutAfter, outOfRange, requestRefusals, cutRefusal, request, requestCut}
 use Rattle.rules.specs.Step.{taken, takenFrom, suitable, updateRefusals, update, plainRefusals, cut, recovery, happens, step}
-use Rattle.rules.proofs.Passed as passed
+use Rattle.laws.proofs.Passed as passed
 use Rattle.farm.specs.Farm.{Farm, stepAt}
 use Rattle.farm.specs.Demand.{Reached, Recovery, Welcome}
 use Rattle.farm.proofs.Prefix.{each-mem}
 use Rattle.farm.proofs.Held.{Sane, keeps}
 use Rattle.farm.proofs.Known.{Genuine}
-use Rattle.rules.proofs.Outcomes.{served-number}
+use Rattle.laws.proofs.Outcomes.{served-number}
 use Rattle.farm.proofs.Steps.{kept-vector}
 use Rattle.farm.proofs.Taken.{none-refused}
 use Rattle.farm.proofs.Inv.{numbered, lists-run, Inv}

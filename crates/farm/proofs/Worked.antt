@@ -13,7 +13,7 @@ use Rattle.rules.specs.Writes.{server}
 use Rattle.rules.specs.Memory.{writes}
 use Rattle.rules.specs.Image.{historySize, imageSize}
 use Rattle.rules.specs.Calls.{start, message}
-use Rattle.rules.proofs.Octets.{below-zeros}
+use Rattle.laws.proofs.Octets.{below-zeros}
 use Rattle.rules.proofs.Computed.{computed}
 use Rattle.farm.specs.Farm.{Farm, newFarm, Act, cutServing, takes, asking, hearing, recordOf, stepAt, serving, servingCut, telling, act, run}
 use Rattle.farm.specs.Demand.{Lent, Reached, Recovers}

@@ -23,9 +23,9 @@ use Rattle.rules.specs.Image.{historySize, imageSize, checkpointCount, checkpoi
 use Rattle.rules.specs.Answer.{valueReply, answerReply, effectOf}
 use Rattle.rules.specs.Sound.{sound}
 use Rattle.rules.specs.Request.{noted, cleared, valueOf, due, ownPlan, plan, ready, performed, replyTo, served}
-use Rattle.rules.proofs.Stores.{shows-counts, length-checkpointPlan}
-use Rattle.rules.proofs.Sound.{kept-few}
-use Rattle.rules.proofs.Open.{Up, opened}
+use Rattle.laws.proofs.Stores.{shows-counts, length-checkpointPlan}
+use Rattle.laws.proofs.Sound.{kept-few}
+use Rattle.laws.proofs.Open.{Up, opened}
 use Rattle.requests.specs.declared.winner.Won.{Won}
 use Rattle.requests.specs.Parts.{winnerOf, winnerValue}
 

@@ -9,7 +9,7 @@ use lib.Seq.{sets, take-all}
 use Rattle.notes.specs.Record.{recordSize, encode}
 use Rattle.notes.specs.declared.record.Record.{Record}
 use Rattle.rules.specs.Image.{checkpointField, logField, checkpointPlace, logPlace, Store, count, store, stored, byteStores, writePlan, checkpointPlan}
-use Rattle.rules.proofs.Stores.{cut-bytes}
+use Rattle.laws.proofs.Stores.{cut-bytes}
 use Rattle.requests.specs.Parts.{writeBytesPlan}
 
 -- the first k, or all where there are fewer

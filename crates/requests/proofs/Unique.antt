@@ -7,7 +7,7 @@ use Rattle.notes.proofs.Unique.{One}
 use Rattle.rules.specs.declared.answer.Outcome.{Outcome}
 use Rattle.rules.specs.declared.event.What.the-variants as what
 use Rattle.rules.specs.Step.{step}
-use Rattle.rules.proofs.One.{step-one}
+use Rattle.laws.proofs.One.{step-one}
 use Rattle.sound.proofs.Unique.{heads-known}
 use Rattle.requests.proofs.admit.request_head.Reads as request-head
 use Rattle.requests.proofs.request.request.Reads as request

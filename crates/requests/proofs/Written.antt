@@ -21,10 +21,10 @@ use Rattle.rules.specs.Image.{imageSize, logCount, checkpoint, log, stored, wri
 use Rattle.rules.specs.Sound.{sound}
 use Rattle.rules.specs.Answer.{replying, writtenReply, finished}
 use Rattle.rules.specs.Request.{newVector, newRecord, written, noted, due, ownPlan, plan, ready, performed, replyTo, served, cutAfter}
-use Rattle.rules.proofs.Writes.{countOf-few, length-tally}
-use Rattle.rules.proofs.Stores.{length-writePlan}
-use Rattle.rules.proofs.Sound.{own-count}
-use Rattle.rules.proofs.Open.{opened, own-low}
+use Rattle.laws.proofs.Writes.{countOf-few, length-tally}
+use Rattle.laws.proofs.Stores.{length-writePlan}
+use Rattle.laws.proofs.Sound.{own-count}
+use Rattle.laws.proofs.Open.{opened, own-low}
 use Rattle.requests.specs.Parts.{writeBytesPlan}
 use Rattle.requests.proofs.Storing.{write-plan}
 

@@ -25,8 +25,8 @@ use Rattle.rules.specs.Writes.{writesOf, countOf, tally, inTurn}
 use Rattle.rules.specs.Memory.{memory, blank, holding, noting, noReads}
 use Rattle.rules.specs.Image.{historySize, imageSize, checkpointAt, checkpointCount, logCount, checkpointArea, logArea, logPlace, headerOk, checkpoint, log}
 use Rattle.rules.specs.Sound.{later, recovered, recoveredVector, recoveredState, recoveredHistory, recover, suits}
-use Rattle.rules.proofs.Places.{records-drop}
-use Rattle.rules.proofs.Writes.{writesOf-append, writesOf-all, writesOf-none, length-tally, at-tally, vectors-equal, same-server, raised-by}
+use Rattle.laws.proofs.Places.{records-drop}
+use Rattle.laws.proofs.Writes.{writesOf-append, writesOf-all, writesOf-none, length-tally, at-tally, vectors-equal, same-server, raised-by}
 use Rattle.sound.specs.Tests.{added, downTest, logTest, walkOf}
 use Rattle.sound.proofs.Same.{bytes-in}
 use Rattle.sound.proofs.Tested.{Limits, limits}

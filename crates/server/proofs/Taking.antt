@@ -24,8 +24,8 @@ use Rattle.notes.proofs.Records.{length-records, encode-decode}
 use Rattle.rules.specs.declared.answer.Refusal.{Refusal}
 use Rattle.rules.specs.declared.answer.Refusal.the-variants.{Gap, OwnAhead}
 use Rattle.rules.specs.Step.{Turn, skipped, appended, refuses, atTurn, vectorAfter, Taken, andThen, taken}
-use Rattle.rules.proofs.Lists.{every-drop, every-weaker}
-use Rattle.rules.proofs.Sound.{formed-origin}
+use Rattle.laws.proofs.Lists.{every-drop, every-weaker}
+use Rattle.laws.proofs.Sound.{formed-origin}
 use Rattle.server.specs.Take.{originOk, Seen, seen, ahead}
 use Rattle.sound.proofs.Walks.{this, origin, origin-at}
 use Rattle.sound.proofs.Runs.{next-record, part-size}

@@ -5,7 +5,7 @@ use mathlib.Core.List.{List}
 use denote.Ref.{now}
 use Rattle.notes.proofs.Unique.{One}
 use Rattle.rules.specs.declared.answer.Outcome.{Outcome}
-use Rattle.rules.proofs.One.{step-one}
+use Rattle.laws.proofs.One.{step-one}
 use Rattle.server.proofs.step.step.Reads as step
 
 -- a step: with each byte of history and image

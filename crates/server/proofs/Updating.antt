@@ -28,8 +28,8 @@ use Rattle.rules.specs.declared.answer.Refusal.the-variants.{OutOfRange, Histor
 use Rattle.rules.specs.Memory.{Memory, memory, holding}
 use Rattle.rules.specs.Answer.{Effect, refusalReply, replying, finished, unless, head, isDown, elsewhere}
 use Rattle.rules.specs.Step.{Taken, takenFrom, updated, suitable, updateRefusals, update}
-use Rattle.rules.proofs.Passed.{Head, ungiven, head-known, head-right, head-rest}
-use Rattle.rules.proofs.Open.{opened}
+use Rattle.laws.proofs.Passed.{Head, ungiven, head-known, head-right, head-rest}
+use Rattle.laws.proofs.Open.{opened}
 use Rattle.server.specs.Take.{originOk, ahead, arrivalRefusals}
 use Rattle.server.proofs.Taking.{formed-origins, taken-ahead}
 

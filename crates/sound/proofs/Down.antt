@@ -23,10 +23,10 @@ use Rattle.notes.proofs.Lists.{both, every-append}
 use Rattle.notes.proofs.Vectors.{zeros-at}
 use Rattle.rules.specs.Writes.{keep, counting, writesOf, countOf, tally, inTurn, sameRecords}
 use Rattle.rules.specs.Sound.{later, recovered, recoveredVector, recoveredState, last, isLast, consistent}
-use Rattle.rules.proofs.Lists.{keep-passes, every-keep, every-drop, counting-at, map-at}
-use Rattle.rules.proofs.Writes.{InTurn, in-turn, turn-in, turn-first, same-records, records-same, at-tally, writesOf-append, writesOf-all, writesOf-none, From, from-above, from-drop, raised-by, same-server}
-use Rattle.rules.proofs.Phones.{no-reads}
-use Rattle.rules.proofs.Sound.{Facts, facts, facts-ok}
+use Rattle.laws.proofs.Lists.{keep-passes, every-keep, every-drop, counting-at, map-at}
+use Rattle.laws.proofs.Writes.{InTurn, in-turn, turn-in, turn-first, same-records, records-same, at-tally, writesOf-append, writesOf-all, writesOf-none, From, from-above, from-drop, raised-by, same-server}
+use Rattle.laws.proofs.Phones.{no-reads}
+use Rattle.laws.proofs.Sound.{Facts, facts, facts-ok}
 use Rattle.sound.specs.Tests.{ownRun, newest, added, logTest, downTest}
 use Rattle.sound.proofs.Same.{same-truth}
 

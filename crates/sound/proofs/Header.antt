@@ -16,8 +16,8 @@ use Rattle.notes.specs.declared.index.ServerId.{ServerId}
 use Rattle.notes.proofs.Lists.{same-refl}
 use Rattle.notes.proofs.Numbers.{AllBelow, one-byte, from-one, part-back}
 use Rattle.rules.specs.Image.{logMost, headerSize, checkpointAt, logAt, imageSize, nField, ownField, checkpointField, checkpointOffset, logField, logOffset, totalField, spare, headerOf, checkpointCount, logCount, headerOk, freshImage}
-use Rattle.rules.proofs.Places.{part-in}
-use Rattle.rules.proofs.Stores.{laid-of}
+use Rattle.laws.proofs.Places.{part-in}
+use Rattle.laws.proofs.Stores.{laid-of}
 
 -- where the spare bytes stand, as one number
 abbrev pub spareField : Field

@@ -26,9 +26,9 @@ use Rattle.rules.specs.declared.answer.Refusal.the-variants.{OutOfRange, Unsoun
 use Rattle.rules.specs.Image.{historySize, logMost, imageSize, imageN, imageOwn, checkpointCount, logCount, headerOk, checkpointArea, logArea, checkpoint, log, checkpointPlace, logPlace}
 use Rattle.rules.specs.Sound.{suits}
 use Rattle.rules.specs.Calls.{isNumbered, orLater, placeOf, standsAt, bytesAt, lookUpRefusal}
-use Rattle.rules.proofs.Places.{part-in, records-in}
-use Rattle.rules.proofs.Stores.{Shows, shows-server, shows-counts}
-use Rattle.rules.proofs.Passed.{ungiven}
+use Rattle.laws.proofs.Places.{part-in, records-in}
+use Rattle.laws.proofs.Stores.{Shows, shows-server, shows-counts}
+use Rattle.laws.proofs.Passed.{ungiven}
 use Rattle.sound.specs.Tests.{partAt, partOf}
 
 module _ (o : ServerId) (n : ℕ) where

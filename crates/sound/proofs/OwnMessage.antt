@@ -19,9 +19,9 @@ use Rattle.rules.specs.declared.answer.Refusal.the-variants.{TooShort}
 use Rattle.rules.specs.Memory.{Memory, writes}
 use Rattle.rules.specs.Answer.{refusalReply, head, isDown}
 use Rattle.rules.specs.Calls.{ownMessage, message}
-use Rattle.rules.proofs.Passed.{Head, head-known, head-right}
-use Rattle.rules.proofs.Open.{opened}
-use Rattle.rules.proofs.Places.{records-in}
+use Rattle.laws.proofs.Passed.{Head, head-known, head-right}
+use Rattle.laws.proofs.Open.{opened}
+use Rattle.laws.proofs.Places.{records-in}
 use Rattle.notes.proofs.Answers.{first-append}
 
 -- the message of k records is as long as it must be

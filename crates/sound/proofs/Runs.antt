@@ -20,8 +20,8 @@ use Rattle.notes.proofs.Numbers.{AllBelow, below-drop}
 use Rattle.notes.proofs.Records.{length-records, record-at}
 use Rattle.rules.specs.Writes.{keep, writesOf, countOf, sameRecords}
 use Rattle.rules.specs.Sound.{isLast}
-use Rattle.rules.proofs.Writes.{writesOf-append, writesOf-here, writesOf-other, countOf-append}
-use Rattle.rules.proofs.Places.{records-take}
+use Rattle.laws.proofs.Writes.{writesOf-append, writesOf-here, writesOf-other, countOf-append}
+use Rattle.laws.proofs.Places.{records-take}
 use Rattle.sound.specs.Tests.{ownRun}
 use Rattle.sound.proofs.Same.{records-same}
 use Rattle.sound.proofs.Walks.{this, origin, origin-at}

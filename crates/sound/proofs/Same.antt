@@ -13,8 +13,8 @@ use Rattle.notes.proofs.Lists.{same-refl, same-true}
 use Rattle.notes.proofs.Numbers.{AllBelow, below-take}
 use Rattle.notes.proofs.Records.{bytes-of-records}
 use Rattle.rules.specs.Writes.{sameRecords}
-use Rattle.rules.proofs.Places.{records-in}
-use Rattle.rules.proofs.Writes as writes
+use Rattle.laws.proofs.Places.{records-in}
+use Rattle.laws.proofs.Writes as writes
 
 -- two tests that are true together are equal
 pub same-truth : (a b : Bool) → (a ≡ true → b ≡ true) → (b ≡ true → a ≡ true) → a ≡ b

@@ -14,7 +14,7 @@ use Rattle.rules.specs.declared.state.State.{State}
 use Rattle.rules.specs.Writes.{counting}
 use Rattle.rules.specs.Memory.{phone, phoneIds, inSet, rwAt}
 use Rattle.rules.specs.Sound.{rwOk, readsOk}
-use Rattle.rules.proofs.Lists.{length-counting, counting-at, map-at}
+use Rattle.laws.proofs.Lists.{length-counting, counting-at, map-at}
 
 -- ---- RW against CR, a phone at a time
 length-phones : length phoneIds ≡ phones

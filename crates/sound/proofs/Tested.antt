@@ -28,8 +28,8 @@ use Rattle.rules.specs.Writes.{writesOf, countOf, tally, inTurn}
 use Rattle.rules.specs.Memory.{Memory, memory}
 use Rattle.rules.specs.Image.{logMost, checkpointAt, logAt, checkpointCount, logCount, checkpointArea, logArea, headerOk, checkpoint, log}
 use Rattle.rules.specs.Sound.{vCounts, isFirst, isLast, readsOk, isZero, suits, soundUp, soundDown, sound}
-use Rattle.rules.proofs.Places.{part-in, records-take, records-drop}
-use Rattle.rules.proofs.Writes.{at-tally, countOf-few}
+use Rattle.laws.proofs.Places.{part-in, records-take, records-drop}
+use Rattle.laws.proofs.Writes.{at-tally, countOf-few}
 use Rattle.sound.specs.declared.raw.Tally.{Tally}
 use Rattle.sound.specs.Tests.{tail, historyTest, imageTest, upTest, ownRun, newest, added, logTest, downTest, walkOf}
 use Rattle.sound.proofs.Same.{records-same}

@@ -15,8 +15,8 @@ use Rattle.sound.specs.declared.head.Head.{Head}
 use Rattle.sound.specs.declared.head.Head.the-variants.{Passed, Refused}
 use Rattle.sound.specs.declared.look_up.Found.{Found}
 use Rattle.sound.specs.declared.look_up.Found.the-variants as found
-use Rattle.rules.proofs.Unique.{back, refused-back}
-use Rattle.rules.proofs.One.{judge-one, start-one, status-one, look-up-one, message-one}
+use Rattle.laws.proofs.Unique.{back, refused-back}
+use Rattle.laws.proofs.One.{judge-one, start-one, status-one, look-up-one, message-one}
 use Rattle.sound.proofs.head.down_head.Reads as down-head
 use Rattle.sound.proofs.head.sound_head.Reads as sound-head
 use Rattle.sound.proofs.head.up_head.Reads as up-head

@@ -19,8 +19,8 @@ use Rattle.notes.proofs.Lists.{both, same-refl, same-true}
 use Rattle.rules.specs.declared.state.State.{State}
 use Rattle.rules.specs.Writes.{writesOf, countOf, tally, inTurn, sameRecords}
 use Rattle.rules.specs.Sound.{vCounts, isFirst, last, isLast, readsOk, consistent}
-use Rattle.rules.proofs.Writes.{in-turn, turn-in, same-records, records-same, at-tally, countOf-append}
-use Rattle.rules.proofs.Sound.{Facts, facts, facts-ok, kept-few, own-count}
+use Rattle.laws.proofs.Writes.{in-turn, turn-in, same-records, records-same, at-tally, countOf-append}
+use Rattle.laws.proofs.Sound.{Facts, facts, facts-ok, kept-few, own-count}
 use Rattle.sound.specs.Tests.{tail, historyTest, imageTest, upTest}
 use Rattle.sound.proofs.Same.{same-truth}
 

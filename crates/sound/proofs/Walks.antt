@@ -18,10 +18,10 @@ use Rattle.notes.proofs.Lists.{take-more, every-append, every-fails}
 use Rattle.notes.proofs.Numbers.{from-one}
 use Rattle.notes.proofs.Records.{length-records, record-at}
 use Rattle.rules.specs.Writes.{keep, counting, serverIds, writesOf, countOf, tally, inTurn}
-use Rattle.rules.proofs.Writes.{InTurn, in-turn, turn-in, turn-more, turn-first, tally-more, at-tally, writesOf-append, writesOf-here}
-use Rattle.rules.proofs.Lists.{counting-at}
-use Rattle.rules.proofs.Stamps.{at-few}
-use Rattle.rules.proofs.Sound.{formed-origin}
+use Rattle.laws.proofs.Writes.{InTurn, in-turn, turn-in, turn-more, turn-first, tally-more, at-tally, writesOf-append, writesOf-here}
+use Rattle.laws.proofs.Lists.{counting-at}
+use Rattle.laws.proofs.Stamps.{at-few}
+use Rattle.laws.proofs.Sound.{formed-origin}
 use Rattle.sound.specs.Tests.{walkOf}
 use Rattle.sound.specs.declared.raw.Tally.{Tally}
 

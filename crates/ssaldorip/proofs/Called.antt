@@ -15,8 +15,8 @@ use Rattle.rules.specs.Answer.{Effect, finished}
 use Rattle.rules.specs.Calls.{fresh, noServer, startRefusal, start}
 use Rattle.rules.specs.Memory.{Memory}
 use Rattle.rules.specs.Writes.{server}
-use Rattle.rules.proofs.Outcomes.{refused-same}
-use Rattle.rules.proofs.Passed.{unless-either}
+use Rattle.laws.proofs.Outcomes.{refused-same}
+use Rattle.laws.proofs.Passed.{unless-either}
 use Rattle.ssaldorip.specs.Calls.{blockSize, blockOf, vectorSize, Lent, Called, lent, called, onto, leaves, memoryOf, call, happening, noReply}
 
 module _ (v size : ℕ) (f : Memory → Effect) (bytes : Effect → List ℕ) (l : Lent) where

@@ -11,7 +11,7 @@ use Rattle.rules.specs.declared.answer.Status.the-variants.{Nobody, Phones, Ref
 use Rattle.rules.specs.Answer.{refusalNumber, statusReply}
 use Rattle.rules.specs.Calls.{status}
 use Rattle.rules.specs.Memory.{Memory}
-use Rattle.rules.proofs.Outcomes.{refusal-number}
+use Rattle.laws.proofs.Outcomes.{refusal-number}
 use Rattle.ssaldorip.specs.Calls.{blockSize, Lent, left, put, fills, statusIn, memoryOf}
 
 module _ (f : Memory → List ℕ → ℕ × List ℕ) (l : Lent) where

@@ -31,8 +31,8 @@ use Rattle.rules.specs.Memory.{Memory}
 use Rattle.rules.specs.Request.{valueOf, replyTo, served, requestRefusals, request}
 use Rattle.rules.specs.Step.{step}
 use Rattle.rules.specs.Writes.{server, winner}
-use Rattle.rules.proofs.Outcomes.{refusal-number, served-number}
-use Rattle.rules.proofs.One.{happens-eight}
+use Rattle.laws.proofs.Outcomes.{refusal-number, served-number}
+use Rattle.laws.proofs.One.{happens-eight}
 use Rattle.ssaldorip.specs.Calls.{blockSize, vectorSize, readSize, Lent, called, onto, memoryOf, call, happening, readBytes, orShort}
 use Rattle.ssaldorip.proofs.Called.{call-refused, call-short}
 

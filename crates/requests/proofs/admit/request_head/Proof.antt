@@ -4,7 +4,7 @@ use mathlib.Core.List.{[]}
 use mathlib.Core.Path.{sym, ap, _∙_}
 use Rattle.rules.specs.Memory.{memory}
 use Rattle.rules.specs.Answer.{isDown}
-use Rattle.rules.proofs.Passed.{head-known}
+use Rattle.laws.proofs.Passed.{head-known}
 use Rattle.sound.specs.Tests.{headRefusal}
 use Rattle.requests.proofs.Admitting.{request-refused, request-out, request-behind, request-full}
 use borrow.Author.Needs.{needs}

@@ -5,7 +5,7 @@ use native.Mathlib.Omega.{arith}
 use borrow.Author.Tests.{not-true, not-false}
 use Rattle.rules.specs.Memory.{memory}
 use Rattle.rules.specs.Image.{checkpointCount}
-use Rattle.rules.proofs.Stores.{length-checkpointPlan}
+use Rattle.laws.proofs.Stores.{length-checkpointPlan}
 use Rattle.sound.specs.declared.image.Image.{Image}
 use Rattle.requests.proofs.Served.{plan-due, plan-none}
 use borrow.Author.Needs.{needs}

@@ -3,7 +3,7 @@
 use mathlib.Core.Path.{sym, ap, _∙_}
 use Rattle.rules.specs.Memory.{memory}
 use Rattle.rules.specs.Request.{isWrite, served, request}
-use Rattle.rules.proofs.Passed.{asked}
+use Rattle.laws.proofs.Passed.{asked}
 use Rattle.sound.specs.Tests.{headRefusal}
 use borrow.Author.Needs.{needs}
 use Rattle.requests.proofs.request.request.Statement.{statement}

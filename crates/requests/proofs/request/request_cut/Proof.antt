@@ -5,7 +5,7 @@ use native.Mathlib.Omega.{arith}
 use Rattle.rules.specs.declared.event.Request.{Request}
 use Rattle.rules.specs.Memory.{memory}
 use Rattle.rules.specs.Request.{isWrite, cutAfter, requestCut}
-use Rattle.rules.proofs.Passed.{asked}
+use Rattle.laws.proofs.Passed.{asked}
 use Rattle.sound.specs.Tests.{headRefusal}
 use Rattle.requests.proofs.Admitting.{cut-refused, cut-over, cut-passed}
 use borrow.Author.Needs.{needs}

@@ -12,7 +12,7 @@ use Rattle.rules.specs.Writes.{countOf, tally}
 use Rattle.sound.specs.Tests.{added}
 use Rattle.sound.specs.declared.image.Image.{Image}
 use Rattle.sound.specs.declared.raw.Tally.{Tally}
-use Rattle.rules.proofs.Writes.{at-tally}
+use Rattle.laws.proofs.Writes.{at-tally}
 use Rattle.sound.proofs.Runs.{rest}
 use Rattle.sound.proofs.Tested.{Limits}
 use Rattle.server.proofs.Recovering.{suited, suited-counts, suited-fits, suited-few, recover-made}

@@ -6,7 +6,7 @@ use Rattle.rules.specs.Memory.{memory}
 use Rattle.rules.specs.Sound.{recover}
 use Rattle.rules.specs.Answer.{finished}
 use Rattle.rules.specs.Step.{recovery}
-use Rattle.rules.proofs.Passed.{head-known, head-right}
+use Rattle.laws.proofs.Passed.{head-known, head-right}
 use Rattle.sound.specs.Tests.{headRefusal}
 use Rattle.sound.proofs.Tested.{down-suits}
 use Rattle.server.proofs.Plain.{plain-refused, plain-elsewhere, plain-passed}

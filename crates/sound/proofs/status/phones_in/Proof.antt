@@ -2,7 +2,7 @@
 -- Assumes nothing.
 use native.Mathlib.Omega.{arith}
 use lib.Count.{ones-le, trailing-le}
-use Rattle.rules.proofs.Status.{members-count, members-none, members-first}
+use Rattle.laws.proofs.Status.{members-count, members-none, members-first}
 use borrow.Author.Needs.{needs}
 use Rattle.sound.proofs.status.phones_in.Statement.{statement}
 use Rattle.sound.proofs.status.phones_in.Tie as tie

@@ -14,9 +14,9 @@ use Rattle.notes.specs.Index.{servers}
 use Rattle.notes.specs.Vector.{zeroFrom}
 use Rattle.notes.specs.Record.{numberMost, stampOk}
 use Rattle.notes.specs.declared.record.Record.{Record}
 use Rattle.rules.specs.Writes.{server, writesOf, tally}
-use Rattle.rules.proofs.Lists.{keep-none, every-weaker, every-each}
-use Rattle.rules.proofs.Writes.{length-tally, at-tally, countOf-few}
+use Rattle.laws.proofs.Lists.{keep-none, every-weaker, every-each}
+use Rattle.laws.proofs.Writes.{length-tally, at-tally, countOf-few}
 
 -- origins below n
 abbrev pub low : ℕ → Record → Bool

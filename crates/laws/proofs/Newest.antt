@@ -19,17 +19,17 @@ use Rattle.notes.proofs.Lists.{every-append}
 use Rattle.notes.proofs.Numbers.{AllBelow}
 use Rattle.notes.proofs.Records.{length-encode, length-records}
 use Rattle.notes.proofs.Messages.{server-facts}
 use Rattle.rules.specs.Writes.{writesOf, countOf, tally}
 use Rattle.rules.specs.Memory.{Memory, writes}
 use Rattle.rules.specs.Image.{checkpoint, log}
 use Rattle.rules.specs.Request.{newVector, newRecord}
-use Rattle.rules.proofs.Lists.{every-weaker}
-use Rattle.rules.proofs.Writes.{length-tally, at-tally, writesOf-append, writesOf-here}
-use Rattle.rules.proofs.Stamps.{low, at-few, tally-stamp}
-use Rattle.rules.proofs.Places.{Like, decode-encoded}
-use Rattle.rules.proofs.Stores.{shows-server}
-use Rattle.rules.proofs.Sound.{new-vector, formed-origin}
-use Rattle.rules.proofs.Open.{Up}
+use Rattle.laws.proofs.Lists.{every-weaker}
+use Rattle.laws.proofs.Writes.{length-tally, at-tally, writesOf-append, writesOf-here}
+use Rattle.laws.proofs.Stamps.{low, at-few, tally-stamp}
+use Rattle.laws.proofs.Places.{Like, decode-encoded}
+use Rattle.laws.proofs.Stores.{shows-server}
+use Rattle.laws.proofs.Sound.{new-vector, formed-origin}
+use Rattle.laws.proofs.Open.{Up}
 
 -- records that differ in value and time at most are alike in what soundness asks of them
 formed-like : (n : ℕ) (a b : Record) → Like a b → wellFormed n a ≡ wellFormed n b

@@ -12,8 +12,8 @@ use Rattle.notes.specs.Lists.{every, above}
 use Rattle.notes.specs.Record.{beats, rank}
 use Rattle.notes.specs.declared.record.Record.{Record}
 use Rattle.notes.proofs.Lists.{above-differs, above-same, neither}
 use Rattle.rules.specs.Writes.{keepIf, keep, best, winner}
-use Rattle.rules.proofs.Lists.{keep-none}
+use Rattle.laws.proofs.Lists.{keep-none}
 
 -- ---- lists of numbers in order
 

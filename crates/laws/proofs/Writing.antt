@@ -15,20 +15,20 @@ use Rattle.notes.specs.declared.index.ServerId.{ServerId}
 use Rattle.notes.specs.declared.record.Record.{Record}
 use Rattle.notes.specs.declared.vector.Vector.{Vector}
 use Rattle.notes.proofs.Records.{length-records}
 use Rattle.rules.specs.declared.event.Request.the-variants.{Write}
 use Rattle.rules.specs.declared.state.State.{State}
 use Rattle.rules.specs.Memory.{Memory, memory, downOf, noting, holding, writes}
 use Rattle.rules.specs.Image.{logCount, checkpoint, log, stored, writePlan}
 use Rattle.rules.specs.Sound.{sound}
 use Rattle.rules.specs.Request.{newVector, newRecord}
-use Rattle.rules.proofs.Phones.{reads-more}
-use Rattle.rules.proofs.Places.{records-appended, records-one}
-use Rattle.rules.proofs.Stores.{Shows, length-writePlan, write-cut, write-all}
-use Rattle.rules.proofs.Sound.{Facts, wrote}
-use Rattle.rules.proofs.Open.{Up, closed, closed-down}
-use Rattle.rules.proofs.Passed.{Asked}
-use Rattle.rules.proofs.Newest.{encoded, like, number-like, next, formed}
-use Rattle.rules.proofs.Reading.{up, held, own}
+use Rattle.laws.proofs.Phones.{reads-more}
+use Rattle.laws.proofs.Places.{records-appended, records-one}
+use Rattle.laws.proofs.Stores.{Shows, length-writePlan, write-cut, write-all}
+use Rattle.laws.proofs.Sound.{Facts, wrote}
+use Rattle.laws.proofs.Open.{Up, closed, closed-down}
+use Rattle.laws.proofs.Passed.{Asked}
+use Rattle.laws.proofs.Newest.{encoded, like, number-like, next, formed}
+use Rattle.laws.proofs.Reading.{up, held, own}
 
 module _ (m : Memory) (j : ServerId) (i : PhoneId) (cell value time : ℕ) (v : Vector) (a : Asked m j i (Write cell value time) v) where
   abbrev pub u : Up m

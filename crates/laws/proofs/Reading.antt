@@ -17,18 +17,18 @@ use Rattle.notes.specs.declared.index.ServerId.{ServerId}
 use Rattle.notes.specs.declared.record.Record.{Record}
 use Rattle.notes.specs.declared.vector.Vector.{Vector}
 use Rattle.notes.proofs.Records.{length-records}
 use Rattle.rules.specs.declared.event.Request.{Request}
 use Rattle.rules.specs.declared.event.Request.the-variants.{Read, Write}
 use Rattle.rules.specs.declared.state.State.{State}
 use Rattle.rules.specs.Memory.{withPhone, Memory, memory, inCR, rwWith, downOf, noting, writes}
 use Rattle.rules.specs.Image.{checkpointCount, checkpoint, log, Store, stored, checkpointPlan}
 use Rattle.rules.specs.Sound.{sound}
 use Rattle.rules.specs.Request.{noted, cleared}
-use Rattle.rules.proofs.Phones.{reads-cleared, reads-noted}
-use Rattle.rules.proofs.Stores.{Shows, shows-counts, length-checkpointPlan, checkpoint-cut, checkpoint-counted, checkpoint-all}
-use Rattle.rules.proofs.Sound.{Facts, kept-few, noted-facts, kept-all, log-empty}
-use Rattle.rules.proofs.Open.{Up, opened, closed, closed-down, own-low}
-use Rattle.rules.proofs.Passed.{Asked}
+use Rattle.laws.proofs.Phones.{reads-cleared, reads-noted}
+use Rattle.laws.proofs.Stores.{Shows, shows-counts, length-checkpointPlan, checkpoint-cut, checkpoint-counted, checkpoint-all}
+use Rattle.laws.proofs.Sound.{Facts, kept-few, noted-facts, kept-all, log-empty}
+use Rattle.laws.proofs.Open.{Up, opened, closed, closed-down, own-low}
+use Rattle.laws.proofs.Passed.{Asked}
 
 -- a request noted changes CR and RW alone
 abbrev pub Renoted : State → State → Type 0

@@ -20,9 +20,9 @@ use Rattle.notes.specs.declared.record.Record.{Record}
 use Rattle.notes.specs.declared.vector.Vector.{Vector}
 use Rattle.notes.proofs.Lists.{both, same-refl, same-true}
 use Rattle.notes.proofs.Vectors.{at-raised, at-raised-other}
 use Rattle.rules.specs.Writes.{keepIf, keep, counting, server, serverIds, writesOf, countOf, tally, numbersRun, inTurn, numbersOf, sameRecords}
 use Rattle.rules.specs.Sound.{raisedBy}
-use Rattle.rules.proofs.Lists.{keep-append, keep-all, keep-none, keep-few, every-weaker, length-counting, counting-at, counting-more, counting-take, counting-drop, map-take, map-drop, map-at, every-counting, counting-every}
+use Rattle.laws.proofs.Lists.{keep-append, keep-all, keep-none, keep-few, every-weaker, length-counting, counting-at, counting-more, counting-take, counting-drop, map-take, map-drop, map-at, every-counting, counting-every}
 
 -- ---- the writes of an origin
 module _ (o : ServerId) where

@@ -14,14 +14,14 @@ use Rattle.notes.proofs.Lists.{both}
 use Rattle.notes.proofs.Vectors.{zeros-at}
 use Rattle.notes.proofs.Records.{length-records}
 use Rattle.notes.proofs.Messages.{server-facts}
 use Rattle.rules.specs.declared.state.State.{State}
 use Rattle.rules.specs.Writes.{writesOf, countOf}
 use Rattle.rules.specs.Memory.{Memory, memory, downOf, writes}
 use Rattle.rules.specs.Image.{imageSize, imageN, imageOwn, headerOk, checkpoint, log}
 use Rattle.rules.specs.Sound.{recovered, recoveredState, isZero, suits, soundUp, soundDown, sound}
-use Rattle.rules.proofs.Phones.{no-reads}
-use Rattle.rules.proofs.Stores.{Shows, shows-server, shows-n, shows-own}
-use Rattle.rules.proofs.Sound.{Facts, facts, facts-ok, recovered-lacked, woken}
+use Rattle.laws.proofs.Phones.{no-reads}
+use Rattle.laws.proofs.Stores.{Shows, shows-server, shows-n, shows-own}
+use Rattle.laws.proofs.Sound.{Facts, facts, facts-ok, recovered-lacked, woken}
 
 -- ---- up
 

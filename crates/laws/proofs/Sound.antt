@@ -23,18 +23,18 @@ use Rattle.notes.specs.declared.record.Record.{Record}
 use Rattle.notes.specs.declared.vector.Vector.{Vector}
 use Rattle.notes.proofs.Lists.{both, every-append, same-refl, same-true}
 use Rattle.notes.proofs.Records.{origin-below}
 use Rattle.rules.specs.declared.answer.Refusal.the-variants.{Gap, OwnAhead}
 use Rattle.rules.specs.declared.event.Request.{Request}
 use Rattle.rules.specs.declared.event.Request.the-variants.{Read, Write}
 use Rattle.rules.specs.declared.state.ReadTable.{ReadTable}
 use Rattle.rules.specs.declared.state.State.{State}
 use Rattle.rules.specs.Writes.{keep, counting, writesOf, countOf, tally, inTurn, sameRecords}
 use Rattle.rules.specs.Memory.{withPhone, inCR, rwWith, holding, noting}
 use Rattle.rules.specs.Sound.{later, recovered, raisedBy, recoveredVector, recoveredState, vCounts, isFirst, last, isLast, holdsBefore, writesOk, readsOk, consistent}
 use Rattle.rules.specs.Request.{newVector, cleared, noted}
 use Rattle.rules.specs.Step.{Turn, skipped, appended, refuses, atTurn, vectorAfter, Taken, andThen, taken}
-use Rattle.rules.proofs.Lists.{every-take, every-drop, every-keep, keep-passes}
-use Rattle.rules.proofs.Writes.{InTurn, in-turn, turn-in, turn-more, same-records, records-same, at-tally, tally-more, countOf-take, writesOf-append, writesOf-here, writesOf-other, writesOf-take, writesOf-all, writesOf-none, countOf-append, countOf-few, From, from-above, from-drop, raised-by, turn-first, same-server}
+use Rattle.laws.proofs.Lists.{every-take, every-drop, every-keep, keep-passes}
+use Rattle.laws.proofs.Writes.{InTurn, in-turn, turn-in, turn-more, same-records, records-same, at-tally, tally-more, countOf-take, writesOf-append, writesOf-here, writesOf-other, writesOf-take, writesOf-all, writesOf-none, countOf-append, countOf-few, From, from-above, from-drop, raised-by, turn-first, same-server}
 
 -- ---- the sentences
 

@@ -19,13 +19,13 @@ use Rattle.notes.specs.declared.index.ServerId.{ServerId}
 use Rattle.notes.specs.declared.vector.Vector.{Vector}
 use Rattle.notes.proofs.Lists.{both}
 use Rattle.notes.proofs.Vectors.{zeros-at}
 use Rattle.rules.specs.declared.event.Request.{Request}
 use Rattle.rules.specs.declared.event.Request.the-variants.{Read, Write}
 use Rattle.rules.specs.declared.state.State.{State}
 use Rattle.rules.specs.Memory.{phone, phoneIds, inSet, withPhone, inCR, rwAt, rwWith, blank, holding, noting}
 use Rattle.rules.specs.Sound.{rwOk, readsOk}
 use Rattle.rules.specs.Request.{noted, cleared}
-use Rattle.rules.proofs.Lists.{every-counting, counting-every}
+use Rattle.laws.proofs.Lists.{every-counting, counting-every}
 
 -- ---- sets of phones
 

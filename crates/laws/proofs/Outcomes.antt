@@ -12,22 +12,22 @@ use Rattle.notes.specs.declared.index.PhoneId.{PhoneId}
 use Rattle.notes.specs.declared.index.ServerId.{ServerId}
 use Rattle.notes.specs.declared.record.Record.{Record}
 use Rattle.notes.specs.declared.vector.Vector.{Vector}
 use Rattle.rules.specs.declared.answer.Refusal.{Refusal}
 use Rattle.rules.specs.declared.answer.Refusal.the-variants.{OutOfRange, NotUp, NotYet, HistoryFull, LogFull, Unsound, Gap, OwnAhead, TooShort}
 use Rattle.rules.specs.declared.event.Event.{Event}
 use Rattle.rules.specs.declared.event.Request.{Request}
 use Rattle.rules.specs.declared.event.Request.the-variants.{Read, Write}
 use Rattle.rules.specs.declared.event.What.{What}
 use Rattle.rules.specs.declared.event.What.the-variants as what
 use Rattle.rules.specs.Writes.{winner}
 use Rattle.rules.specs.Memory.{Memory, withState, downOf, writes}
 use Rattle.rules.specs.Sound.{recover, sound}
 use Rattle.rules.specs.Answer.{Effect, refusalReply, replying, finished, isDown}
 use Rattle.rules.specs.Request.{valueOf, replyTo, served, cutAfter, requestRefusals, cutRefusal, request, requestCut}
 use Rattle.rules.specs.Step.{takenFrom, updated, updateRefusals, update, plainRefusals, cut, recovery, happens, step}
-use Rattle.rules.proofs.Passed.{Head, Asked, Brought, Plain, unless-either, asked, asked-cut, brought-known, plain}
-use Rattle.rules.proofs.Reading.{after}
-use Rattle.rules.proofs.Writing as writing
+use Rattle.laws.proofs.Passed.{Head, Asked, Brought, Plain, unless-either, asked, asked-cut, brought-known, plain}
+use Rattle.laws.proofs.Reading.{after}
+use Rattle.laws.proofs.Writing as writing
 
 pub record Cases (m : Memory) (j : ServerId) (v : Vector) (msg : List ℕ) (P : Effect → Type 0) : Type 0 where
   pub refuses : (k : Refusal) → P (replying (refusalReply k) zeros m)

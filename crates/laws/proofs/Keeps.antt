@@ -24,29 +24,29 @@ use Rattle.notes.proofs.Pieces.{Each, each-also}
 use Rattle.notes.proofs.Vectors.{zeros-at}
 use Rattle.notes.proofs.Records.{length-records, Fits, records-fit, records-of-bytes, length-recordBytes}
 use Rattle.notes.proofs.Messages.{Server, server-facts, right}
 use Rattle.rules.specs.declared.event.Event.{Event}
 use Rattle.rules.specs.declared.event.Request.{Request}
 use Rattle.rules.specs.declared.event.Request.the-variants.{Read, Write}
 use Rattle.rules.specs.declared.event.What.{What}
 use Rattle.rules.specs.declared.event.What.the-variants as what
 use Rattle.rules.specs.declared.state.State.{State}
 use Rattle.rules.specs.Writes.{keepIf, keep, counting, serverIds, writesOf, tally}
 use Rattle.rules.specs.Memory.{Memory, memory, downOf, writes, blank, withState}
 use Rattle.rules.specs.Image.{checkpointCount, logCount, checkpoint, log, imageSize, checkpointAt, logAt, checkpointArea, logArea, historySize, stored}
 use Rattle.rules.specs.Sound.{later, recovered, recoveredState, recoveredHistory, recover, sound, isZero, suits, soundUp, soundDown}
 use Rattle.rules.specs.Answer.{finished, isDown}
 use Rattle.rules.specs.Request.{written, noted, cleared, due, ownPlan, plan, ready, performed, served, cutAfter, request, requestCut, requestRefusals, cutRefusal}
 use Rattle.rules.specs.Step.{Turn, skipped, appended, refuses, atTurn, vectorAfter, Taken, andThen, taken, takenFrom, updated, update, updateRefusals, plainRefusals, cut, recovery, happens, step}
 use Rattle.rules.specs.Calls.{fresh}
-use Rattle.rules.proofs.Phones.{reads-blank}
-use Rattle.rules.proofs.Places.{records-appended, records-front}
-use Rattle.rules.proofs.Stores.{fresh-shows, shows-server}
-use Rattle.rules.proofs.Sound.{Facts, took}
-use Rattle.rules.proofs.Open.{Up, opened, closed, closed-down}
-use Rattle.rules.proofs.Passed.{Asked, Brought, Plain, unless-keeps, plain, asked, asked-cut, brought-known}
-use Rattle.rules.proofs.Newest.{formed}
-use Rattle.rules.proofs.Reading.{noted-is, cp, read-left, read-cut}
-use Rattle.rules.proofs.Writing.{write-left, write-cut-so}
+use Rattle.laws.proofs.Phones.{reads-blank}
+use Rattle.laws.proofs.Places.{records-appended, records-front}
+use Rattle.laws.proofs.Stores.{fresh-shows, shows-server}
+use Rattle.laws.proofs.Sound.{Facts, took}
+use Rattle.laws.proofs.Open.{Up, opened, closed, closed-down}
+use Rattle.laws.proofs.Passed.{Asked, Brought, Plain, unless-keeps, plain, asked, asked-cut, brought-known}
+use Rattle.laws.proofs.Newest.{formed}
+use Rattle.laws.proofs.Reading.{noted-is, cp, read-left, read-cut}
+use Rattle.laws.proofs.Writing.{write-left, write-cut-so}
 
 -- ---- either
 module _ (m : Memory) (j : ServerId) (i : PhoneId) (v : Vector) where

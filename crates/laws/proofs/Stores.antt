@@ -17,8 +17,8 @@ use Rattle.notes.specs.declared.record.Record.{Record}
 use Rattle.notes.proofs.Lists.{both, same-refl, same-true}
 use Rattle.notes.proofs.Numbers.{from-to, one-byte}
 use Rattle.notes.proofs.Records.{length-records}
 use Rattle.rules.specs.Image.{logMost, headerSize, logAt, imageSize, headerOf, imageN, imageOwn, ownField, checkpointField, logField, checkpointCount, logCount, headerOk, checkpointArea, logArea, checkpoint, log, checkpointPlace, logPlace, freshImage, Store, byte, count, store, stored, byteStores, writePlan, checkpointPlan}
-use Rattle.rules.proofs.Places.{take-sets, take-sets-in, drop-sets, drop-sets-in, part-in, area-kept, records-appended, records-in, records-drop}
+use Rattle.laws.proofs.Places.{take-sets, take-sets-in, drop-sets, drop-sets-in, part-in, area-kept, records-appended, records-in, records-drop}
 
 -- ---- stores one after the other
 

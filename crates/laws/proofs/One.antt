@@ -11,27 +11,27 @@ use Rattle.notes.specs.Index.{servers}
 use Rattle.notes.specs.declared.index.PhoneId.{PhoneId}
 use Rattle.notes.specs.declared.index.ServerId.{ServerId}
 use Rattle.notes.specs.declared.vector.Vector.{Vector}
 use Rattle.rules.specs.declared.answer.Message.{Message}
 use Rattle.rules.specs.declared.answer.Outcome.{Outcome}
 use Rattle.rules.specs.declared.answer.Verdict.{Verdict}
 use Rattle.rules.specs.declared.answer.Status.{Status}
 use Rattle.rules.specs.declared.event.Event.{Event}
 use Rattle.rules.specs.declared.event.Request.{Request}
 use Rattle.rules.specs.declared.event.Request.the-variants.{Read, Write}
 use Rattle.rules.specs.declared.event.What.{What}
 use Rattle.rules.specs.declared.event.What.the-variants as what
 use Rattle.rules.specs.declared.state.State.{State}
 use Rattle.rules.specs.Memory.{Memory, withState, downOf, writes}
 use Rattle.rules.specs.Sound.{recover}
 use Rattle.rules.specs.Answer.{Effect, effectOf, verdictReply, statusReply, finished, isDown}
 use Rattle.rules.specs.Request.{noted, cleared, due, ready, performed, served, cutAfter, written, newRecord, requestRefusals, cutRefusal, request, requestCut}
 use Rattle.rules.specs.Step.{takenFrom, updated, updateRefusals, update, plainRefusals, cut, recovery, happens, step}
 use Rattle.rules.specs.Calls.{judge, fresh, noServer, startRefusal, start, status, found, lookUp, filled, message}
-use Rattle.rules.proofs.Writes.{length-tally}
-use Rattle.rules.proofs.Passed.{Asked, asked, unless-either}
-use Rattle.rules.proofs.Newest.{eight}
-use Rattle.rules.proofs.Reading.{up, noted-is}
-use Rattle.rules.proofs.Unique.{effects-known, verdicts-known, status-known, filled-known}
+use Rattle.laws.proofs.Writes.{length-tally}
+use Rattle.laws.proofs.Passed.{Asked, asked, unless-either}
+use Rattle.laws.proofs.Newest.{eight}
+use Rattle.laws.proofs.Reading.{up, noted-is}
+use Rattle.laws.proofs.Unique.{effects-known, verdicts-known, status-known, filled-known}
 
 -- ---- the vector of every effect has eight counts
 abbrev pub Eight : Effect → Type 0

@@ -12,21 +12,21 @@ use Rattle.notes.specs.declared.index.ServerId.{ServerId}
 use Rattle.notes.specs.declared.vector.Vector.{Vector}
 use Rattle.notes.proofs.Numbers.{AllBelow, below-drop}
 use Rattle.notes.proofs.Pieces.{Each}
 use Rattle.rules.specs.declared.event.Event.{Event}
 use Rattle.rules.specs.declared.event.Request.{Request}
 use Rattle.rules.specs.declared.event.Request.the-variants.{Read, Write}
 use Rattle.rules.specs.declared.event.What.{What}
 use Rattle.rules.specs.declared.event.What.the-variants as what
 use Rattle.rules.specs.Memory.{Memory, withState, downOf}
 use Rattle.rules.specs.Image.{historySize, checkpointCount, logCount, checkpointPlan}
 use Rattle.rules.specs.Sound.{recoveredHistory, recover}
 use Rattle.rules.specs.Answer.{finished, isDown}
 use Rattle.rules.specs.Request.{newRecord, written, due, ownPlan, plan, performed, served, cutAfter, requestRefusals, cutRefusal, request, requestCut}
 use Rattle.rules.specs.Step.{takenFrom, updated, updateRefusals, update, plainRefusals, cut, recovery, happens, step}
-use Rattle.rules.proofs.Octets.{below-append, below-sets, below-zeros, below-encode, below-recordBytes, each-take, IsByte, below-stored, write-bytes, checkpoint-bytes}
-use Rattle.rules.proofs.Passed.{Asked, Brought, unless-keeps, asked, asked-cut, brought-known}
-use Rattle.rules.proofs.Reading.{own}
-use Rattle.rules.proofs.Keeps.{each-append, new-fit, recoveredIn, recovered-fit}
+use Rattle.laws.proofs.Octets.{below-append, below-sets, below-zeros, below-encode, below-recordBytes, each-take, IsByte, below-stored, write-bytes, checkpoint-bytes}
+use Rattle.laws.proofs.Passed.{Asked, Brought, unless-keeps, asked, asked-cut, brought-known}
+use Rattle.laws.proofs.Reading.{own}
+use Rattle.laws.proofs.Keeps.{each-append, new-fit, recoveredIn, recovered-fit}
 
 pub record Bytes (m : Memory) : Type 0 where
   pub history : AllBelow 256 (m .history)
