@@ -7,6 +7,8 @@ use notes::index::PhoneId;
 use notes::index::ServerId;
 use notes::raw;
 use notes::vector::Vector;
+use reports::start;
+use reports::status;
 use rules::answer::Outcome;
 use rules::event::Event;
 use rules::event::Request;
@@ -14,8 +16,6 @@ use rules::event::What;
 use rules::state::State;
 use server::step;
 use sound::image::Image;
-use sound::start;
-use sound::status;
 
 pub(crate) type History = [u8; Image::HISTORY_LEN];
 

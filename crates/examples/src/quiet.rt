@@ -6,14 +6,14 @@ use crate::act::Stored;
 use notes::index::PhoneId;
 use notes::index::ServerId;
 use notes::vector::Vector;
+use reports::message;
+use reports::start;
 use rules::answer::Message;
 use rules::event::Event;
 use rules::event::What;
 use rules::state::State;
 use server::step;
 use sound::image::Image;
-use sound::message;
-use sound::start;
 
 // So many writes of a value by phone 5.
 pub(crate) fn writes(

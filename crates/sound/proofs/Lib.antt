@@ -9,7 +9,4 @@ pub mod Tested
 pub mod Zeros
 pub mod Short
 pub mod Heads
-pub mod Starting
-pub mod LookUp
-pub mod OwnMessage
 pub mod Unique

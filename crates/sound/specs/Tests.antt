@@ -1,61 +1,30 @@
 -- What the calls' parts find, in the forms that loops need: the first tests, a look-up's place, and a consistent state, test by test.
 -- Assumes nothing.
-use Prim.Native.Nat.{ℕ, _*_, suc, _+_, _-_}
+use Prim.Native.Nat.{ℕ, suc, _+_, _-_}
 use mathlib.Core.Option.{Option, none, some}
 use mathlib.Core.List.{List, [], _∷_, map}
 use mathlib.Core.Bool.{true, false, _&&_, cond, Bool}
 use lib.ListN.{take, drop, length, getD}
 use lib.Dec.{leb, eqb}
-use Rattle.notes.specs.Reply.{Reply, done}
-use Rattle.notes.specs.Record.{recordSize, records, wellFormed, number}
+use Rattle.notes.specs.Record.{wellFormed, number}
 use Rattle.notes.specs.declared.index.ServerId.{ServerId}
 use Rattle.notes.specs.Lists.{every}
 use Rattle.notes.specs.Vector.{zeros, at}
 use Rattle.notes.specs.declared.record.Record.{Record}
 use Rattle.notes.specs.Message.{historyMost}
-use Rattle.rules.specs.Answer.{refusalReply}
 use Rattle.rules.specs.declared.answer.Refusal.{Refusal}
-use Rattle.rules.specs.Calls.{placeOf}
 use Rattle.rules.specs.Writes.{tally, inTurn, writesOf, countOf}
 use Rattle.rules.specs.declared.state.State.{State}
 use Rattle.rules.specs.Sound.{vCounts, isFirst, isLast, readsOk}
 use Rattle.sound.specs.declared.head.Head.{Head}
 use Rattle.sound.specs.declared.head.Head.the-variants.{Passed, Refused}
-use Rattle.sound.specs.declared.look_up.Found.{Found}
-use Rattle.sound.specs.declared.look_up.Found.the-variants as found
-use Rattle.sound.specs.declared.look_up.Place.{Place}
-use Rattle.sound.specs.declared.look_up.Place.the-variants.{At, Nothing}
 use Rattle.sound.specs.declared.raw.Tally.{Tally}
 
--- ---- the first tests of a call, and a look-up
+-- ---- the first tests of a call
 
 abbrev pub headRefusal : Head → Option Refusal
 headRefusal Passed = none
 headRefusal (Refused k) = some k
-
-abbrev pub placed : Place → Option ℕ
-placed (At p) = some p
-placed Nothing = none
-
--- the bytes of the record at a place, or else others
-abbrev pub partAt : List ℕ → Option ℕ → List ℕ → List ℕ
-partAt area (some k) later = take recordSize (drop (recordSize * k) area)
-partAt area none later = later
-
--- a write's bytes from the checkpoint's first records or else from the log's, or none for "not there"
-unfoldable pub partOf : List ℕ → ℕ → List ℕ → ℕ → ServerId → ℕ → List ℕ
-partOf checkpoint kept log logged o n =
-    partAt checkpoint (placeOf o n (records kept checkpoint)) (partAt log (placeOf o n (records logged log)) [])
-
--- the place where a record stands in an image, or no value for "not there"
-abbrev pub placeReply : Option ℕ → Reply
-placeReply (some p) = done (p ∷ [])
-placeReply none = done []
-
-abbrev pub foundReply : Found → Reply
-foundReply (found.At p) = placeReply (some p)
-foundReply found.NotThere = placeReply none
-foundReply (found.Refused k) = refusalReply k
 
 -- ---- records in turn
 

@@ -1,9 +1,8 @@
 // The stored image: a header, 256 places for checkpoint records and 64 for log records.
 ghost use mathlib.Core.Path.{_≡_};
 ghost use Prim.Native.Nat.{_-_, _≤_};
-ghost use mathlib.Core.List.{_++_};
-ghost use lib.ListN.{length, drop};
-ghost use Rattle.rules.specs.Image.{imageSize, headerOk, freshImage};
+ghost use lib.ListN.{length};
+ghost use Rattle.rules.specs.Image.{imageSize, headerOk};
 use notes::index::ServerId;
 use notes::message::Header;
 use notes::raw;
@@ -75,17 +74,4 @@ pub(crate) fn header_ok(image: &[u8], n: u8, own: ServerId) -> bool
         return false;
     }
     raw::u32_at(image, Image::SPARE) == 0
-}
-
-// An image anew. Its counts and the header's spare bytes are zero with the rest.
-pub(crate) fn put_fresh(image: &mut [u8], n: u8, own: ServerId)
-    requires { ⌜ imageSize ≤ length (now image) ⌝ }
-    ensures { λ _. ⌜ now (image .exit) ≡ freshImage n own ++ drop imageSize (now (image .entry)) ⌝ }
-{
-    crate::raw::zero(image, 0, Image::LEN);
-    raw::put_u8(image, Image::N, n);
-    raw::put_u8(image, Image::OWN, own.0);
-    raw::put_u16(image, Image::CHECKPOINT_OFFSET, Image::CHECKPOINT_AT as u16);
-    raw::put_u16(image, Image::LOG_OFFSET, Image::LOG_AT as u16);
-    raw::put_u16(image, Image::TOTAL, Image::LEN as u16);
 }

@@ -7,8 +7,10 @@ ghost use Rattle.notes.specs.Index.{servers};
 ghost use Rattle.notes.specs.Record.{recordSize, records};
 ghost use Rattle.notes.specs.Message.{historyMost};
 ghost use Rattle.rules.specs.Image.{imageSize, logMost, checkpointCount, logCount, log};
+ghost use Rattle.rules.specs.Sound.{suits as suitsOf};
 ghost use Rattle.sound.specs.Tests.{newest as newestOf, walkOf};
 use crate::image::Image;
+use crate::sound;
 use notes::index::ServerId;
 use notes::raw;
 use notes::record::Record;
@@ -98,4 +100,12 @@ pub fn zero(b: &mut [u8], from: usize, to: usize)
         b[i] = 0;
         i += 1;
     }
+}
+
+// The image suits a down state of this N and own number.
+pub fn suits(image: &[u8], n: u8, own: ServerId) -> bool
+    requires { ⌜ imageSize ≤ length (now image) ⌝ }
+    ensures { λ r. ⌜ r ≡ suitsOf n own (now (image .entry)) ⌝ }
+{
+    sound::suits(image, n, own)
 }

@@ -11,9 +11,9 @@ use Rattle.ssaldorip.proofs.messages.ssaldorip_message_check.Reads as m
 use Rattle.ssaldorip.proofs.messages.ssaldorip_message_write.Reads as message-write
 use Rattle.ssaldorip.proofs.messages.ssaldorip_message_next.Reads as message-next
 use Rattle.ssaldorip.proofs.messages.ssaldorip_session_raise.Reads as session-raise
-use Rattle.ssaldorip.proofs.reports.ssaldorip_start.Reads as start
-use Rattle.ssaldorip.proofs.reports.ssaldorip_status.Reads as status
-use Rattle.ssaldorip.proofs.reports.ssaldorip_message.Reads as message
+use Rattle.ssaldorip.proofs.beside.ssaldorip_start.Reads as start
+use Rattle.ssaldorip.proofs.beside.ssaldorip_status.Reads as status
+use Rattle.ssaldorip.proofs.beside.ssaldorip_message.Reads as message
 use Rattle.ssaldorip.proofs.steps.ssaldorip_update.Reads as update
 use Rattle.ssaldorip.proofs.serve.ssaldorip_read.Reads as read
 use Rattle.ssaldorip.proofs.serve.ssaldorip_write.Reads as write

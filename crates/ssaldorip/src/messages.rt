@@ -15,8 +15,8 @@ use notes::record::Record;
 use notes::session::Session;
 use notes::session::raised_by;
 use notes::vector::Vector;
-use sound::look_up;
-use sound::look_up::Found;
+use reports::look_up;
+use reports::look_up::Found;
 use sound::refusal;
 
 // The bytes of a vector.

@@ -5,8 +5,8 @@ use mathlib.Core.Path.{_≡_, ap, sym, _∙_}
 use native.Mathlib.Omega.{arith}
 use Rattle.rules.specs.Calls.{standsAt, lookUpRefusal}
 use Rattle.rules.specs.Writes.{server}
-use Rattle.sound.specs.Tests.{foundReply}
-use Rattle.sound.specs.declared.look_up.Found.{Found}
+use Rattle.reports.specs.LookUp.{foundReply}
+use Rattle.reports.specs.declared.look_up.Found.{Found}
 use Rattle.ssaldorip.specs.Calls.{placeOrNumber}
 use Rattle.ssaldorip.proofs.Stateless.{valueOr, place-or-number, place-within}
 use borrow.Author.Needs.{needs}

@@ -1,0 +1,4 @@
+pub mod LookUp
+pub mod OwnMessage
+pub mod Starting
+pub mod Unique

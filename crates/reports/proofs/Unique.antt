@@ -1,0 +1,48 @@
+-- Any two outcomes that meet a public call's statement are equal: a theorem for each call, about the very clauses of its contract.
+-- Assumes nothing.
+use Prim.Native.Nat.{ℕ}
+use mathlib.Core.List.{List, [], _∷_}
+use mathlib.Core.Path.{_≡_, refl, sym, _∙_}
+use denote.Ref.{now}
+use Rattle.notes.proofs.Answers.{known-by}
+use Rattle.notes.proofs.Unique.{One}
+use Rattle.rules.specs.declared.answer.Message.{Message}
+use Rattle.rules.specs.declared.answer.Outcome.{Outcome}
+use Rattle.laws.proofs.Unique.{back, refused-back}
+use Rattle.laws.proofs.One.{start-one, status-one, look-up-one, message-one}
+use Rattle.reports.specs.LookUp.{foundReply}
+use Rattle.reports.specs.declared.look_up.Found.{Found}
+use Rattle.reports.specs.declared.look_up.Found.the-variants as found
+use Rattle.reports.proofs.look_up.look_up.Reads as look-up
+use Rattle.reports.proofs.look_up.stands_at.Reads as stands-at
+use Rattle.reports.proofs.message.message.Reads as message
+use Rattle.reports.proofs.start.start.Reads as start
+use Rattle.reports.proofs.status.status.Reads as status
+
+pub statuses : One status.Post (λ k r s. r)
+statuses k a x y s t p q = status-one x y _ p q
+
+-- with each byte of the output
+pub messages : One {O = Message × List ℕ} message.Post (λ k r s. (r, now (s .1 .1 .1 .0)))
+messages k a x y s t p q = let e = message-one x y _ _ _ _ p q in λ i. (e .0 i, e .1 i)
+
+-- with each byte of history and image
+pub starts : One {O = Outcome × List ℕ × List ℕ} start.Post (λ k r s. (r, now (s .1 .1 .0), now (s .1 .1 .1 .0)))
+starts k a x y s t p q = let e = start-one x y _ _ _ _ _ _ _ _ p q in λ i. (e .0 i, e .1 i, e .2 i)
+
+-- a part is known by its bytes, with the number beside it
+pub look-ups : One {O = ℕ × List ℕ} look-up.Post (λ k r s. (now (s .1 .1 .1 .0), now r))
+look-ups k a x y s t p q = let e = look-up-one _ _ _ _ _ _ _ p q in λ i. (e .0 i, e .1 i)
+
+-- a place is known by its number and values
+abbrev placeOf : List ℕ → Found
+placeOf [] = found.NotThere
+placeOf (p ∷ l) = found.At p
+
+place-back : (a : Found) → back placeOf found.Refused (foundReply a) ≡ a
+place-back (found.At p) = refl
+place-back found.NotThere = refl
+place-back (found.Refused k) = refused-back placeOf found.Refused k
+
+pub places : One stands-at.Post (λ k r s. r)
+places k a x y s t p q = known-by foundReply (back placeOf found.Refused) place-back x y (p ∙ sym q)

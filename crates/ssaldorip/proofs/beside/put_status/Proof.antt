@@ -1,0 +1,21 @@
+-- `beside::put_status` meets its contract: no room, or two bytes.
+-- Assumes nothing.
+use Rattle.ssaldorip.proofs.Reported.{put-short, put-done}
+use borrow.Author.Needs.{needs}
+use Rattle.ssaldorip.proofs.beside.put_status.Statement.{statement}
+use Rattle.ssaldorip.proofs.beside.put_status.Tie as tie
+
+returns : tie.Need-returns
+returns c = let a = c .before .before .args in put-short (a .count) (a .lowest) (a .reply .now) (c .if1 .taken)
+
+returns-2 : tie.Need-returns-2
+returns-2 c =
+    let second = c .before .before in
+    let first = second .before .before .before .before in
+    let test = first .before .before in
+    let a = test .before .before .args in
+    rw (second .put-u82 .ensures, first .put-u8 .ensures)
+    (put-done (a .count) (a .lowest) (a .reply .now) (test .if1 .left))
+
+pub put-status-spec : {M : Type 1} → statement M
+put-status-spec = tie.close (tie.spec returns (search needs) (search needs) (search needs) returns-2)
