@@ -1,1 +1,2 @@
+-- The files of laws and theorems, beside the proofs of functions.
 pub mod Within

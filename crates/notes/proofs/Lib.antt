@@ -1,3 +1,4 @@
+-- The files of laws and theorems, beside the proofs of functions.
 pub mod Lists
 pub mod Numbers
 pub mod Pieces
@@ -10,4 +11,5 @@ pub mod Reading
 pub mod Sessions
 pub mod InPlace
 pub mod Held
+pub mod Asking
 pub mod Unique

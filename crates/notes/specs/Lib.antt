@@ -1,3 +1,4 @@
+-- The files of definitions.
 pub mod Lists
 pub mod Bytes
 pub mod Reply

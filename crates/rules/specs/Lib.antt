@@ -1,3 +1,4 @@
+-- The files of definitions.
 pub mod Writes
 pub mod Memory
 pub mod Sound

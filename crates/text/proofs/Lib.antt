@@ -1,3 +1,4 @@
+-- The files of laws and theorems, beside the proofs of functions.
 pub mod Decimals
 pub mod Texts
 pub mod Lines
