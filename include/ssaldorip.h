@@ -7,12 +7,16 @@
  *   - a buffer lent for change overlaps no other buffer of the same call;
  *   - no other thread uses a buffer during a call in which it is lent for change.
  *
- * Each call returns 0 for done, or the number of a refusal (enum ssaldorip_refusal); ssaldorip_look_up and
- * ssaldorip_message_next return more.
+ * Each call returns 0 for done, or the number of a refusal (enum ssaldorip_refusal); ssaldorip_version, ssaldorip_look_up,
+ * ssaldorip_message_first and ssaldorip_message_next return other numbers.
  * A refusal changes no lent byte. Bytes past the sizes below stay as they are. Numbers in buffers are little-endian.
  *
  * A server is three buffers. The state and the history are its memory, which a cut loses. The image is what is stored: it
- * alone brings a server back. Send no reply before the image that the step left is stored, or a cut may lose the write.
+ * alone brings a server back. Send no reply before the image that the step left is stored, or a cut may lose the write. Store
+ * it whole or not at all, or else in store order: the bytes of the new records in order, then the count, and each count whole
+ * (SSALDORIP_WRITE_STORES and ssaldorip_read_cut list the stores).
+ *
+ * A phone stores its session, raised by a read's reply, before it shows the reply's value (ssaldorip_session_raise).
  */
 #ifndef SSALDORIP_H
 #define SSALDORIP_H
@@ -23,6 +27,9 @@
 #ifdef __cplusplus
 extern "C" {
 #endif
+
+/* The version of this interface. It grows whenever a signature, a size or what a call returns changes. */
+#define SSALDORIP_VERSION 1
 
 /* Limits. Numbers of servers, phones and cells begin at 0. */
 #define SSALDORIP_SERVERS 8           /* N is 1 to this, and a vector has this many positions */
@@ -46,7 +53,7 @@ extern "C" {
 /* The second byte of a status reply when no phone is in CR. */
 #define SSALDORIP_NO_PHONE 255
 
-/* The stores of a write, for ssaldorip_write_cut: 28 bytes of the record and the log count. */
+/* The stores of a write, for ssaldorip_write_cut: the 28 bytes of the record in order, then the log count. */
 #define SSALDORIP_WRITE_STORES 29
 
 /* Why a call is refused. */
@@ -71,6 +78,12 @@ enum ssaldorip_refusal {
     /* A lent buffer is too short. */
     SSALDORIP_TOO_SHORT = 9
 };
+
+/* ---- Before the first other call ---- */
+
+/* The archive's SSALDORIP_VERSION. A program compares it with its header's before its first other call: an object that was
+ * compiled with another version's header would corrupt memory without a word. */
+uint32_t ssaldorip_version(void);
 
 /* ---- A server: start, requests, updates, cuts, recovery ----
  *
@@ -99,8 +112,8 @@ uint32_t ssaldorip_read(uint8_t *state, size_t state_len,
                         uint8_t *reply, size_t reply_len);
 
 /* The same read, cut after its first `stores` stores: exactly these are in the image, the state is down, the history stays,
- * and there is no reply. A checkpoint has 28 stores for each record that it adds and 2 for the counts; any other read has
- * none. For trying cuts one by one.
+ * and there is no reply. A checkpoint has 28 stores for each record that it adds, in order, then one for the checkpoint count
+ * and one for the log count, which becomes 0; any other read has none. For trying cuts one by one.
  * Refuses as ssaldorip_read does, but for the reply; then, last, 1 (more stores than the step has). */
 uint32_t ssaldorip_read_cut(uint8_t *state, size_t state_len,
                             uint8_t *history, size_t history_len,
@@ -158,6 +171,13 @@ uint32_t ssaldorip_recover(uint8_t *state, size_t state_len,
 
 /* ---- A server: reports, which change nothing but their reply ---- */
 
+/* Is the state sound with its history and image, up or down? An operator asks it of a stored image with the state that
+ * ssaldorip_recover names, and any history. Changes nothing; 0 is sound.
+ * Refuses 9 (state under 160), 9 (history, image), 6 (unsound). */
+uint32_t ssaldorip_judge(const uint8_t *state, size_t state_len,
+                         const uint8_t *history, size_t history_len,
+                         const uint8_t *image, size_t image_len);
+
 /* How many phones are in CR, and the lowest numbered of them or SSALDORIP_NO_PHONE.
  * Refuses 9 (state), 9 (history, image), 6, 2, 9 (reply under 2). */
 uint32_t ssaldorip_status(const uint8_t *state, size_t state_len,
@@ -192,17 +212,25 @@ uint32_t ssaldorip_message_write(uint8_t n, uint8_t sender,
                                  const uint8_t *records, size_t records_len,
                                  uint8_t *out, size_t out_len);
 
+/* The place of a message's first record, where reading begins: 8 for a message that ssaldorip_message_check takes, otherwise
+ * message_len, so that ssaldorip_message_next finds nothing there. No app begins at a constant, since a later version of the
+ * message has a longer header. A message is read so:
+ *     size_t at = ssaldorip_message_first(message, length);
+ *     while ((at = ssaldorip_message_next(message, length, at, record, sizeof record)) != 0) show(record);
+ * Refuses nothing. */
+size_t ssaldorip_message_first(const uint8_t *message, size_t message_len);
+
 /* Reads a message record by record: copies the 28 bytes of the record at place `at` to the start of `record` and returns the
- * place behind it, or 0 if no whole record is left there. The first record stands at SSALDORIP_MESSAGE_HEADER. From there on,
- * a message that ssaldorip_message_check takes gives exactly its writes, in order, and then 0. The message is not checked
- * here; on any bytes and any place the call reads within `message` only. The other bytes of `record` stay, and at 0 or 9
- * all of them.
+ * place behind it, or 0 if no whole record is left there. From the place that ssaldorip_message_first gives, a message gives
+ * exactly its writes, in order, and then 0. The message is not checked here; on any bytes and any place the call reads within
+ * `message` only. The other bytes of `record` stay, and at 0 or 9 all of them.
  * Refuses 9 (record under 28), which no place is. */
 size_t ssaldorip_message_next(const uint8_t *message, size_t message_len, size_t at,
                               uint8_t *record, size_t record_len);
 
 /* Raises a phone's session in place by the vector of a read's reply (its last 16 bytes): the maximum at each position. A
- * write's reply leaves the session, so it is not given here. A new session is 16 zero bytes.
+ * write's reply leaves the session, so it is not given here. A new session is 16 zero bytes. The phone stores the raised
+ * session before it shows the reply's value, or it may forget that the value was seen, and take an older one later.
  * Refuses 9 (session or reply_vector under 16). */
 uint32_t ssaldorip_session_raise(uint8_t *session, size_t session_len,
                                  const uint8_t *reply_vector, size_t reply_vector_len);

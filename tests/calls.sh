@@ -1,13 +1,35 @@
 #!/bin/sh
-# Every public function states its outcome and asks nothing of its caller, but for those of `raw`.
+# Every public function but those of `raw` states its outcome, asks nothing of its caller, and has its theorem NAME-one (or
+# TYPE-NAME-one, where two types have a function of that name) in its crate's proofs/Unique.antt.
 cd "$(dirname "$0")/.." || exit 1
 
 find crates -path '*/src/*' -name '*.rt' ! -name main.rt ! -name raw.rt | sort | xargs awk '
-    function done_with() {
+    # The names of the theorems of a crate, read once.
+    function theorems(crate,    path, line) {
+        if (crate in known) return known[crate]
+        path = "crates/" crate "/proofs/Unique.antt"
+        known[crate] = " "
+        while ((getline line < path) > 0)
+            if (line ~ /^pub [^ ]*-one :/) { split(line, w, " "); known[crate] = known[crate] w[2] " " }
+        return known[crate]
+    }
+    function done_with(    crate, call) {
         if (name == "") return
+        crate = file
+        sub(/^crates\//, "", crate)
+        sub(/\/.*/, "", crate)
+        call = name
+        gsub(/_/, "-", call)
         fault = (asks ? " has a requires" : "") (states ? "" : " has no ensures")
+        all = theorems(crate)
+        if (!index(all, " " call "-one ") && !index(all, " " type "-" call "-one ")) fault = fault " has no theorem " call "-one"
         if (fault == "") passed++; else { failed++; print file ": " name fault }
         name = ""
+    }
+    /^impl/ {
+        type = tolower($0)
+        sub(/^impl(<[^>]*>)? */, "", type)
+        sub(/[^a-z].*/, "", type)
     }
     /^ *pub (extern "C" )?fn / {
         done_with()
@@ -20,6 +42,7 @@ find crates -path '*/src/*' -name '*.rt' ! -name main.rt ! -name raw.rt | sort |
     name != "" && /^ *requires / { asks = 1 }
     name != "" && /^ *ensures / { states = 1 }
     /^ *\{$/ || /^ *\}$/ { done_with() }
+    /^}$/ { type = "" }
     END {
         done_with()
         print passed + 0 " passed, " failed + 0 " failed"

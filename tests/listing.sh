@@ -1,11 +1,20 @@
 #!/bin/sh
 # Runs the listing program on messages from outside: each is held to the lines written here, or to a second listing in awk.
 cd "$(dirname "$0")" || exit 1
-listing=../target/bin/listing
 passed=0
 failed=0
 work=$(mktemp -d) || exit 1
 trap 'rm -rf "$work"' EXIT
+
+# The program is for x86-64. Elsewhere the kit's emulator runs it, with the kit's own loader and libraries.
+tools=$(dirname "$(dirname "$(rt doc)")")/on/$(uname -m)/toolchain
+listing() {
+    if [ "$(uname -m)" = x86_64 ]; then
+        ../target/bin/listing
+    else
+        "$tools/bin/qemu-x86_64" "$tools/lib/ld-linux-x86-64.so.2" --library-path "$tools/lib" ../target/bin/listing
+    fi
+}
 
 # Decimal numbers as bytes.
 emit() {
@@ -25,7 +34,7 @@ expect() {
 
 # prints NAME LINES: of the input at hand.
 prints() {
-    "$listing" <"$work/in" >"$work/got"
+    listing <"$work/in" >"$work/got"
     printf '%s\n' "$2" >"$work/want"
     expect "$1"
 }
@@ -47,15 +56,15 @@ prints 'the example' "$lines"
     tail -c +4 "$work/in" | head -c 20
     sleep 0.2
     tail -c +24 "$work/in"
-} | "$listing" >"$work/got"
+} | listing >"$work/got"
 printf '%s\n' "$lines" >"$work/want"
 expect 'the example in three short reads from a pipe'
 
 : >"$work/in"
 prints 'an empty input' 'refused 6'
-"$listing" </dev/null >"$work/got"
+listing </dev/null >"$work/got"
 expect 'no input'
-"$listing" <&- >"$work/got" 2>"$work/err"
+listing <&- >"$work/got" 2>"$work/err"
 expect 'a closed input'
 
 emit 8 7 0 0 8 0 8 0 >"$work/in"
@@ -94,19 +103,19 @@ awk 'BEGIN { s = "1 0 0 1 8 0 8 28"
 emit "$(cat "$work/most")" >"$work/in"
 awk 'BEGIN { print "servers 1 sender 0 writes 256"
     for (k = 1; k <= 256; k++) print 0, k, 63, 1023, "4294967295 4294967295", k }' >"$work/want"
-cat "$work/in" | "$listing" >"$work/got"
+cat "$work/in" | listing >"$work/got"
 expect '256 writes from a pipe'
-{ cat "$work/in"; printf '\0'; } | "$listing" >"$work/got"
+{ cat "$work/in"; printf '\0'; } | listing >"$work/got"
 echo 'refused 6' >"$work/want"
 expect '7,177 bytes'
-{ cat "$work/in"; head -c 100000 /dev/zero; } | "$listing" >"$work/got" 2>"$work/err"
+{ cat "$work/in"; head -c 100000 /dev/zero; } | listing >"$work/got" 2>"$work/err"
 expect '107,176 bytes'
 
 awk -v seed=20 -v lines=400 -f messages.awk >"$work/messages"
 k=0
 while IFS= read -r m; do
     k=$((k + 1))
-    emit "$m" | "$listing" >"$work/got"
+    emit "$m" | listing >"$work/got"
     echo "$m" | awk -f listing.awk >"$work/want"
     expect "message $k: $m"
 done <"$work/messages"

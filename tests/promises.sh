@@ -1,5 +1,5 @@
 #!/bin/sh
-# Every name that docs/PROMISES.md cites is there: definitions, theorems, functions and must-fail edits.
+# Every name that docs/PROMISES.md cites is there: definitions, theorems, functions and wrong programs; and it cites every wrong program.
 cd "$(dirname "$0")/.." || exit 1
 page=docs/PROMISES.md
 names=$(mktemp) || exit 1
@@ -13,7 +13,7 @@ defined() {
 
 # A function, constant or type of this name, or a module.
 declared() {
-    grep -qE "(fn|const|struct|enum) $1\b" crates/*/src/*.rt || ls crates/*/src/"$1".rt >/dev/null 2>&1
+    grep -qE "(fn|const|struct|enum) $1\b" crates/*/src/*.rt crates/*/src/*/*.rt || ls crates/*/src/"$1".rt >/dev/null 2>&1
 }
 
 # A word of the crates' files, of a file's name, or a tool.
@@ -23,6 +23,10 @@ mentioned() {
 
 there() {
     case $1 in
+    wrong:*)
+        edit=${1#wrong:}
+        [ -e "crates/${edit%/*}/wrong/${edit#*/}.edit" ] || [ -e "crates/${edit%/*}/must-fail/${edit#*/}.edit" ]
+        ;;
     *::*) declared "${1##*::}" ;;
     [A-Z]*.antt | */* | *.txt) [ -e "$1" ] || find crates -name "${1##*/}" | grep -q . ;;
     [A-Z]*.*) defined "${1%%.*}" "${1##*.}" ;;
@@ -30,10 +34,10 @@ there() {
     esac
 }
 
-# What stands between backticks, and must-fail edits by crate and name.
+# What stands between backticks, and wrong programs by crate and name.
 grep -oE '`[A-Za-z][A-Za-z0-9_.:/-]*`' $page | tr -d '`' | sort -u >"$names"
-grep -oE '\b(notes|rules|farm|sound|requests|server|text|ssaldorip)/[a-z][a-z0-9_]+' $page |
-    grep -vE '/(specs|proofs|src)$' | sed 's|\(.*\)/\(.*\)|crates/\1/must-fail/\2.edit|' | sort -u >>"$names"
+grep -oE '\b(notes|rules|farm|memory|calls|requests|server|text|ssaldorip)/[a-z][a-z0-9_]+' $page |
+    grep -vE '/(specs|proofs|src|wrong)$' | sed 's|^|wrong:|' | sort -u >>"$names"
 
 passed=0
 failed=0
@@ -45,6 +49,20 @@ while read -r name; do
         echo "not there: $name"
     fi
 done <"$names"
+
+for e in crates/*/wrong/*.edit crates/*/must-fail/*.edit; do
+    crate=${e#crates/}
+    edit=${crate%%/*}/$(basename "$e" .edit)
+    case $edit in
+    */wrong_*) continue ;;
+    esac
+    if grep -qw "$edit" $page; then
+        passed=$((passed + 1))
+    else
+        failed=$((failed + 1))
+        echo "not cited: $edit"
+    fi
+done
 
 echo "$passed passed, $failed failed"
 [ "$failed" -eq 0 ]

@@ -11,10 +11,12 @@ fn main() -> Result<(), Refusal> {
     let mut session = Session::new();
 
     let v = barn.write(phone, Write { cell, value: 7, time: 900 }, session.for_write())?;
+    // Here the barn's program stores barn.image(), before the reply goes out.
     println!("the barn took the note: V = {v}");
 
     let reply = barn.read(phone, cell, session.for_read())?;
     session.raise(&reply);
+    // Here the phone stores session.for_read(), before it shows the value.
     println!("read at the barn: {:?}; the session is now {}", reply.value, session.for_read());
 
     // The house cannot see the barn yet. A program looks at the refusal and asks again later.

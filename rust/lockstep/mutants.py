@@ -7,6 +7,7 @@ W = 'target/mutants'
 os.makedirs(W, exist_ok=True)
 MODEL = open('src/model.rs').read().split('#[cfg(test)]\nmod tests')[0]
 FAKE = open('fake/lib.rs').read()
+shutil.copy('src/call.rs', W)
 
 # (name, text, text instead[, 'fake' if the text is of fake/lib.rs])
 M = [
@@ -37,10 +38,10 @@ M = [
  ('recovery compares with the checkpoint only, >=', 'number > v[own as usize]) {', 'number >= v[own as usize]) {'),
  ('nWrites zero after recovery', 'let writes = v[own as usize] - own_in_checkpoint;', 'let writes = 0; let _ = own_in_checkpoint;'),
  ('recovery raises V by T', 'v[own as usize] = number.unwrap_or(v[own as usize]);', 'for i in 0..8 { v[i] = v[i].max(record.t[i]); }'),
- ('recovery leaves the rest', "after.history[..HISTORY].fill(0);\n        for (place", "for (place"),
- ('recovery zeroes past the size', "after.history[..HISTORY].fill(0);\n        for (place", "after.history.fill(0);\n        for (place"),
- ('recovery clears the log', 'let (state, history) = recovered(state.n, state.own, &memory.image);\n        let mut after = memory.clone();', 'let (state, history) = recovered(state.n, state.own, &memory.image);\n        let mut after = memory.clone(); if state.writes == 0 { after.image[6] = 0; }'),
- ('recovery restores nothing', 'let (state, history) = recovered(state.n, state.own, &memory.image);\n        let mut after', 'let (state, history) = (State::fresh(state.n, state.own), Vec::<Record>::new());\n        let mut after'),
+ ('recovery leaves the rest', 'after.history[..HISTORY].fill(0);\n    for (place', 'for (place'),
+ ('recovery zeroes past the size', 'after.history[..HISTORY].fill(0);\n    for (place', 'after.history.fill(0);\n    for (place'),
+ ('recovery clears the log', 'let (state, history) = recovered(state.n, state.own, &memory.image);\n    let mut after = memory.clone();', 'let (state, history) = recovered(state.n, state.own, &memory.image);\n    let mut after = memory.clone(); if state.writes == 0 { after.image[6] = 0; }'),
+ ('recovery restores nothing', 'let (state, history) = recovered(state.n, state.own, &memory.image);\n    let mut after', 'let (state, history) = (State::fresh(state.n, state.own), Vec::<Record>::new());\n    let mut after'),
  ('state not 9', 'refuse_if(memory.state.len() < STATE || asked.len() < VECTOR, SHORT)?;', 'refuse_if(memory.state.len() < STATE || asked.len() < VECTOR, UNSOUND)?;'),
  ('history 9 only with image', 'self.history.len() < HISTORY || self.image.len() < IMAGE, SHORT', 'self.history.len() < HISTORY && self.image.len() < IMAGE || self.image.len() < IMAGE || self.history.len() < HISTORY && self.state[2] == 1, SHORT'),
  ('6 after 2', 'let state = self.judged()?;\n        refuse_if(state.up == 0, DOWN)?;', 'refuse_if(self.state.len() >= STATE && self.history.len() >= HISTORY && self.image.len() >= IMAGE && self.state[2] == 0, DOWN)?;\n        let state = self.judged()?;'),
@@ -76,57 +77,70 @@ M = [
  ('5 before 4', 'refuse_if(state.held as usize == HISTORY_WRITES, FULL)?;\n    refuse_if(Header::parse(&memory.image).log_count as usize == LOG_WRITES, LOG_FULL)?;', 'refuse_if(Header::parse(&memory.image).log_count as usize == LOG_WRITES, LOG_FULL)?;\n    refuse_if(state.held as usize == HISTORY_WRITES, FULL)?;'),
  ('4 at 255', 'state.held as usize == HISTORY_WRITES', 'state.held as usize >= HISTORY_WRITES - 1'),
  ('5 at 63', 'log_count as usize == LOG_WRITES', 'log_count as usize >= LOG_WRITES - 1'),
- ('output 9 before 4 and 5', 'let state = judged_write(&memory, server, write, asked)?;\n        let step = Step::write(&memory, &state, write);\n        let reply', 'judged_request(&memory, server, phone, cell, asked)?; refuse_if(reply.len() < 16, SHORT)?; let state = judged_write(&memory, server, write, asked)?;\n        let step = Step::write(&memory, &state, write);\n        let reply'),
+ ('output 9 before 4 and 5', 'let state = judged_write(memory, server, write, asked)?;\n    let step', 'judged_request(memory, server, write.phone, write.cell, asked)?; refuse_if(reply.len() < 16, SHORT)?; let state = judged_write(memory, server, write, asked)?;\n    let step'),
  ('read output one short', 'refuse_if(output.len() < reply.len(), SHORT)?;', 'refuse_if(output.len() < reply.len() || reply.len() == 21 && output.len() == 21, SHORT)?;'),
  ('output zeroed past the reply', 'Ok([reply, &output[reply.len()..]].concat())', 'Ok([reply, &vec![0; output.len() - reply.len()]].concat())'),
- ('refused read enters CR', 'or_unchanged(served(), (memory.clone(), reply.to_vec()))\n}\n\n#[allow(clippy::too_many_arguments)]\npub fn read_cut', 'let mut m = memory.clone(); if let Err(3) = served() { m.state[24 + phone as usize / 8] |= 1 << (phone % 8); }\n    or_unchanged(served(), (m, reply.to_vec()))\n}\n\n#[allow(clippy::too_many_arguments)]\npub fn read_cut'),
+ ('refused read enters CR', 'Call::Read { server, phone, cell } => read(memory, server, phone, cell, given, out),', 'Call::Read { server, phone, cell } => match read(memory, server, phone, cell, given, out) { Err(3) => { let mut m = memory.clone(); m.state[24 + phone as usize / 8] |= 1 << (phone % 8); Ok(Left { number: 3, ..Left::memory(m) }) } other => other },'),
  ('start leaves old image bytes', 'after.image[..IMAGE].fill(0);', 'after.image[..LOG_AT].fill(0);'),
  ('start zeroes past the size', 'after.image[..IMAGE].fill(0);', 'after.image.fill(0);'),
- ('start 1 before 9', 'refuse_if(state.len() < STATE || history.len() < HISTORY || image.len() < IMAGE, SHORT)?;\n        refuse_if(!valid_servers(n, own), RANGE)?;', 'refuse_if(!valid_servers(n, own), RANGE)?;\n        refuse_if(state.len() < STATE || history.len() < HISTORY || image.len() < IMAGE, SHORT)?;'),
- ('update raises V by all of T', 'state.v[origin] = number;\n            new.push(record);', 'for i in 0..8 { state.v[i] = state.v[i].max(record.t[i]); }\n            new.push(record);'),
- ('update takes nothing', 'state.v[origin] = number;\n            new.push(record);', ''),
+ ('start 1 before 9', 'memory.long_enough()?;\n    refuse_if(!valid_servers(n, own), RANGE)?;', 'refuse_if(!valid_servers(n, own), RANGE)?;\n    memory.long_enough()?;'),
+ ('update raises V by all of T', 'state.v[origin] = number;\n        new.push(record);', 'for i in 0..8 { state.v[i] = state.v[i].max(record.t[i]); }\n        new.push(record);'),
+ ('update takes nothing', 'state.v[origin] = number;\n        new.push(record);', ''),
  ('own ahead is 7', 'refuse_if(record.origin == state.own, OWN_AHEAD)?;', 'refuse_if(record.origin == state.own, GAP)?;'),
  ('own next is taken', 'refuse_if(record.origin == state.own, OWN_AHEAD)?;', 'refuse_if(record.origin == state.own && number > state.v[origin] + 1, OWN_AHEAD)?;'),
  ('a gap is taken', 'refuse_if(number > state.v[origin] + 1, GAP)?;', 'refuse_if(number > state.v[origin] + 2, GAP)?;'),
  ('a gap is skipped', 'refuse_if(number > state.v[origin] + 1, GAP)?;', 'if number > state.v[origin] + 1 { continue; }'),
  ('4 before 7 and 8', 'new.push(record);', 'new.push(record); refuse_if(state.held as usize + new.len() > HISTORY_WRITES, FULL)?;'),
  ('7 before 8', 'let mut new = Vec::new();\n', 'let mut new = Vec::new(); { let mut v = state.v; for r in &message.records { let o = r.origin as usize; if r.origin != state.own && r.t[o] > v[o] + 1 { return Err(GAP); } if r.origin != state.own && r.t[o] > v[o] { v[o] = r.t[o]; } } }\n'),
- ('4 at the 256th', 'refuse_if(state.held as usize + new.len() > HISTORY_WRITES, FULL)?;\n        let mut after', 'refuse_if(state.held as usize + new.len() >= HISTORY_WRITES && !new.is_empty(), FULL)?;\n        let mut after'),
- ('4 by message count', 'refuse_if(message.n != state.n || message.sender == state.own, UNSOUND)?;', 'refuse_if(message.n != state.n || message.sender == state.own, UNSOUND)?; let count = message.records.len();', ),
+ ('4 at the 256th', 'refuse_if(state.held as usize + new.len() > HISTORY_WRITES, FULL)?;\n    let mut after', 'refuse_if(state.held as usize + new.len() >= HISTORY_WRITES && !new.is_empty(), FULL)?;\n    let mut after'),
+ ('4 by message count', 'let mut new = Vec::new();\n    for record in message.records {', 'let mut new = Vec::new(); let all = message.records.len(); let h0 = state.held as usize;\n    for record in message.records {'),
  ('message N free with none', 'refuse_if(message.n != state.n || message.sender == state.own, UNSOUND)?;', 'refuse_if(message.n != state.n && !message.records.is_empty() || message.sender == state.own, UNSOUND)?;'),
  ('message from receiver is taken', 'refuse_if(message.n != state.n || message.sender == state.own, UNSOUND)?;', 'refuse_if(message.n != state.n, UNSOUND)?;'),
- ('message before server', 'refuse_if(server != state.own, RANGE)?;\n        let message = Message::parse(message).ok_or(UNSOUND)?;', 'let message = Message::parse(message).ok_or(UNSOUND)?;\n        refuse_if(server != state.own, RANGE)?;'),
- ('update stores', 'for record in &new {\n            after.put_history', 'for record in &new {\n            after.image[8975] ^= 1;\n            after.put_history'),
+ ('message before server', 'refuse_if(server != state.own, RANGE)?;\n    let message = Message::parse(message).ok_or(UNSOUND)?;', 'let message = Message::parse(message).ok_or(UNSOUND)?;\n    refuse_if(server != state.own, RANGE)?;'),
+ ('update stores', 'for record in &new {\n        after.put_history', 'for record in &new {\n        after.image[8975] ^= 1;\n        after.put_history'),
  ('status of none is 64', 'unwrap_or(255)', 'unwrap_or(64)'),
+ ('judge of up states only', 'Call::Judge => memory.judged()', 'Call::Judge => memory.judged_up()'),
+ ('judge finds all sound', 'Call::Judge => memory.judged()', 'Call::Judge => memory.long_enough()'),
+ ('judge of the image alone', 'Call::Judge => memory.judged()', 'Call::Judge => memory.long_enough().and_then(|_| refuse_if(!faults_of_image(&memory.image).is_empty(), UNSOUND))'),
+ ('judge without the image', 'Call::Judge => memory.judged()', 'Call::Judge => memory.long_enough().and_then(|_| refuse_if(memory.state[2] > 1 || memory.state[2] == 1 && !faults(&memory.state, &memory.history, &memory.image).is_empty(), UNSOUND))'),
+ ('judge 6 before 9', 'Call::Judge => memory.judged()', 'Call::Judge => refuse_if(memory.state.len() >= STATE && memory.state[2] > 1, UNSOUND).and_then(|_| memory.judged())'),
  ('status of the highest', 'phones.first()', 'phones.last()'),
  ('look-up in the log first', 'place(CHECKPOINT_AT, checkpoint(image)).or_else(|| place(LOG_AT, log(image)))', 'place(LOG_AT, log(image)).or_else(|| place(CHECKPOINT_AT, checkpoint(image)))'),
  ('look-up number in 16 bits', 'r.number().map(u32::from) == Some(number)', 'r.number() == Some(number as u16)'),
- ('look-up refuses number 0', 'let sought = |r: &Record|', 'if number == 0 { return RANGE; }\n    let sought = |r: &Record|'),
- ('look-up of header only', 'if !faults_of_image(image).is_empty() {', 'if faults_of_image(image).iter().any(|f| *f < Fault::Numbering) {'),
+ ('look-up refuses number 0', 'let sought = |r: &Record|', 'refuse_if(number == 0, RANGE)?;\n    let sought = |r: &Record|'),
+ ('look-up of header only', 'refuse_if(!faults_of_image(image).is_empty(), UNSOUND)?;', 'refuse_if(faults_of_image(image).iter().any(|f| *f < Fault::Numbering), UNSOUND)?;'),
  ('look-up past the count', 'place(LOG_AT, log(image))', 'place(LOG_AT, records(image, LOG_AT, 64))'),
  ('look-up in the log past the checkpoint only', 'place(LOG_AT, log(image))', 'place(LOG_AT, log(image).into_iter().filter(|r| r.number().unwrap() as usize > checkpoint(image).iter().filter(|c| c.origin == image[1]).count()).collect())'),
- ('look-up 1 before 6', 'if !faults_of_image(image).is_empty() {', 'if (1..=8).contains(&image[0]) && origin >= image[0] { return RANGE; }\n    if !faults_of_image(image).is_empty() {'),
+ ('look-up 1 before 6', 'refuse_if(!faults_of_image(image).is_empty(), UNSOUND)?;', 'refuse_if((1..=8).contains(&image[0]) && origin >= image[0], RANGE)?;\n    refuse_if(!faults_of_image(image).is_empty(), UNSOUND)?;'),
  ('message write of 257', '!records.len().is_multiple_of(Record::LENGTH) || count > HISTORY_WRITES, UNSOUND)', '!records.len().is_multiple_of(Record::LENGTH) || count > 65535, UNSOUND)'),
- ('message write count in 16 bits', 'let count = records.len() / Record::LENGTH;\n        refuse_if(!records.len().is_multiple_of(Record::LENGTH) || count', 'let count = records.len() / Record::LENGTH & 0xffff;\n        refuse_if(!records.len().is_multiple_of(Record::LENGTH) || count'),
+ ('message write count in 16 bits', 'let count = records.len() / Record::LENGTH;\n    refuse_if(!records.len().is_multiple_of(Record::LENGTH) || count', 'let count = records.len() / Record::LENGTH & 0xffff;\n    refuse_if(!records.len().is_multiple_of(Record::LENGTH) || count'),
  ('message write floor', '!records.len().is_multiple_of(Record::LENGTH) || count > HISTORY_WRITES, UNSOUND', 'count > HISTORY_WRITES, UNSOUND'),
- ('message write 9 before 6', 'refuse_if(!valid_servers(n, sender), RANGE)?;\n        let count', 'refuse_if(!valid_servers(n, sender), RANGE)?; refuse_if(out.len() < 8 + records.len() / 28 * 28, SHORT)?;\n        let count'),
- ('next place one less', '(at + Record::LENGTH, [bytes', '(at + Record::LENGTH - 1, [bytes'),
- ('next place one more', '(at + Record::LENGTH, [bytes', '(at + Record::LENGTH + 1, [bytes'),
+ ('message write 9 before 6', 'refuse_if(!valid_servers(n, sender), RANGE)?;\n    let count', 'refuse_if(!valid_servers(n, sender), RANGE)?; refuse_if(out.len() < 8 + records.len() / 28 * 28, SHORT)?;\n    let count'),
+ ('next place one less', 'Some(bytes) => Ok(Left { number: at + Record::LENGTH, ..Left::out(answered(record, bytes)?) }),', 'Some(bytes) => Ok(Left { number: at + Record::LENGTH - 1, ..Left::out(answered(record, bytes)?) }),'),
+ ('first of any bytes', 'None => Left::number(message.len()),', 'None => Left::number(MESSAGE_HEADER),'),
+ ('first of no message is 0', 'None => Left::number(message.len()),', 'None => Left::number(0),'),
+ ('first of no message is 6', 'None => Left::number(message.len()),', 'None => Left::number(UNSOUND as usize),'),
+ ('first of no message by its offset', 'None => Left::number(message.len()),', 'None => Left::number(if message.len() < 8 { message.len() } else { u16_at(message, 4) as usize }),'),
+ ('first of no message in 16 bits', 'None => Left::number(message.len()),', 'None => Left::number(message.len() & 0xffff),'),
+ ('first by the header alone', 'match Message::parse(message) {\n        Some(_) => Left::number(MESSAGE_HEADER),', 'match (message.len() >= 8 && valid_servers(message[0], message[1]) && u16_at(message, 4) == 8 && u16_at(message, 6) as usize == message.len()).then_some(()) {\n        Some(_) => Left::number(MESSAGE_HEADER),'),
+ ('first of no records is 0', 'Some(_) => Left::number(MESSAGE_HEADER),', 'Some(m) => Left::number(if m.records.is_empty() { 0 } else { MESSAGE_HEADER }),'),
+ ('first of a full message is the second', 'Some(_) => Left::number(MESSAGE_HEADER),', 'Some(_) => Left::number(MESSAGE_HEADER + Record::LENGTH * (message.len() == 7_176) as usize),'),
+ ('next place one more', 'Some(bytes) => Ok(Left { number: at + Record::LENGTH, ..Left::out(answered(record, bytes)?) }),', 'Some(bytes) => Ok(Left { number: at + Record::LENGTH + 1, ..Left::out(answered(record, bytes)?) }),'),
  ('next record from the byte after', 'let whole = message.get(at..).and_then(|rest| rest.get(..Record::LENGTH))', 'let whole = message.get(at..).and_then(|rest| rest.get(..Record::LENGTH).map(|b| rest.get(1..29).unwrap_or(b)))'),
- ('next record without its last byte', '[bytes, &record[Record::LENGTH..]]', '[&bytes[..27], &record[27..]]'),
+ ('next record without its last byte', 'Some(bytes) => Ok(Left { number: at + Record::LENGTH, ..Left::out(answered(record, bytes)?) }),', 'Some(bytes) => Ok(Left { number: at + Record::LENGTH, ..Left::out([&bytes[..27], &record[27..]].concat()) }),'),
  ('next of 27 bytes', 'let whole = message.get(at..)', 'let longer = [message, &[0]].concat(); let whole = longer.get(at..)'),
  ('next leaves the last record', 'message.get(at..).and_then', 'message.get(at..).filter(|rest| rest.len() > Record::LENGTH).and_then'),
- ('next finds no end', 'None => (0, record.to_vec()),\n    }\n}\n\n/// "A read', 'None => (at, record.to_vec()),\n    }\n}\n\n/// "A read'),
+ ('next finds no end', 'None => Ok(Left::default()),\n    }\n}\n\n/// "A read', 'None => Ok(Left::number(at)),\n    }\n}\n\n/// "A read'),
  ('next gives the last record again', 'message.get(at..).and_then', 'message.get(if at == message.len() { at.saturating_sub(Record::LENGTH) } else { at }..).and_then'),
- ('next zeroes the record at the end', 'None => (0, record.to_vec()),\n    }\n}\n\n/// "A read', 'None => (0, [&[0; Record::LENGTH], &record[Record::LENGTH..]].concat()),\n    }\n}\n\n/// "A read'),
- ('next copies a part of a record', 'None => (0, record.to_vec()),\n    }\n}\n\n/// "A read', 'None => { let rest = message.get(at..).unwrap_or(&[]); (0, [rest, &record[rest.len()..]].concat()) }\n    }\n}\n\n/// "A read'),
- ('next zeroes past the record', '[bytes, &record[Record::LENGTH..]].concat()', '[bytes, &vec![0; record.len() - Record::LENGTH]].concat()'),
- ('next 0 before 9', 'if record.len() < Record::LENGTH {', 'if record.len() < Record::LENGTH && message.get(at..).is_some_and(|rest| rest.len() >= Record::LENGTH) {'),
- ('next 9 at 28', 'if record.len() < Record::LENGTH {', 'if record.len() <= Record::LENGTH {'),
- ('next in 27 bytes of room', 'if record.len() < Record::LENGTH {', 'if record.len() == 27 && message.get(at..).is_some_and(|rest| rest.len() >= 28) { return (at + 28, message[at..at + 27].to_vec()); }\n    if record.len() < Record::LENGTH {'),
- ('next 9 changes the record', 'return (SHORT as usize, record.to_vec());', 'return (SHORT as usize, vec![0; record.len()]);'),
- ('next 9 is 0', 'return (SHORT as usize, record.to_vec());', 'return (0, record.to_vec());'),
- ('next place wraps', 'let whole = message.get(at..)', 'if at.wrapping_add(Record::LENGTH) < Record::LENGTH { return (at.wrapping_add(Record::LENGTH).max(1), record.to_vec()); }\n    let whole = message.get(at..)'),
+ ('next zeroes the record at the end', 'None => Ok(Left::default()),\n    }\n}\n\n/// "A read', 'None => Ok(Left::out([&[0; Record::LENGTH], &record[Record::LENGTH..]].concat())),\n    }\n}\n\n/// "A read'),
+ ('next copies a part of a record', 'None => Ok(Left::default()),\n    }\n}\n\n/// "A read', 'None => { let rest = message.get(at..).unwrap_or(&[]); Ok(Left::out([rest, &record[rest.len()..]].concat())) }\n    }\n}\n\n/// "A read'),
+ ('next zeroes past the record', 'Some(bytes) => Ok(Left { number: at + Record::LENGTH, ..Left::out(answered(record, bytes)?) }),', 'Some(bytes) => Ok(Left { number: at + Record::LENGTH, ..Left::out([bytes, &vec![0; record.len() - Record::LENGTH]].concat()) }),'),
+ ('next 0 before 9', 'refuse_if(record.len() < Record::LENGTH, SHORT)?;', 'if record.len() < Record::LENGTH { return if message.get(at..).is_some_and(|rest| rest.len() >= Record::LENGTH) { Err(SHORT) } else { Ok(Left::default()) }; }'),
+ ('next 9 at 28', 'refuse_if(record.len() < Record::LENGTH, SHORT)?;', 'refuse_if(record.len() <= Record::LENGTH, SHORT)?;'),
+ ('next in 27 bytes of room', 'refuse_if(record.len() < Record::LENGTH, SHORT)?;', 'if record.len() == 27 && message.get(at..).is_some_and(|rest| rest.len() >= 28) { return Ok(Left { number: at + 28, ..Left::out(message[at..at + 27].to_vec()) }); }\n    refuse_if(record.len() < Record::LENGTH, SHORT)?;'),
+ ('next 9 changes the record', 'refuse_if(record.len() < Record::LENGTH, SHORT)?;', 'if record.len() < Record::LENGTH { return Ok(Left { number: 9, ..Left::out(vec![0; record.len()]) }); }'),
+ ('next 9 is 0', 'refuse_if(record.len() < Record::LENGTH, SHORT)?;', 'refuse_if(record.len() < Record::LENGTH, 0)?;'),
+ ('next place wraps', 'let whole = message.get(at..)', 'if at.wrapping_add(Record::LENGTH) < Record::LENGTH { return Ok(Left::number(at.wrapping_add(Record::LENGTH).max(1))); }\n    let whole = message.get(at..)'),
  ('next place without bit 16', 'let whole = message.get(at..)', 'let at = at & !(1 << 16); let whole = message.get(at..)'),
  ('next place without bit 32', 'let whole = message.get(at..)', 'let at = at & !(1 << 32); let whole = message.get(at..)'),
  ('next place without bit 63', 'let whole = message.get(at..)', 'let at = at & !(1 << 63); let whole = message.get(at..)'),
@@ -139,17 +153,23 @@ M = [
  ('session takes the last', 'r[i].max(v[i])', '{ let _ = r; v[i] }'),
  ('session minimum of 256', 'r[i].max(v[i])', 'r[i].max(v[i]).min(256)'),
  ('session not raised at the last position', 'r[i].max(v[i])', 'if i == 7 { r[i] } else { r[i].max(v[i]) }'),
- ('cut leaves CR', 'after.put_state(&State::down(state.n, state.own));\n        Ok(after)', 'after.put_state(&State { cr: state.cr & 1, ..State::down(state.n, state.own) });\n        Ok(after)'),
+ ('cut leaves CR', 'after.put_state(&State::down(state.n, state.own));\n    Ok(', 'after.put_state(&State { cr: state.cr & 1, ..State::down(state.n, state.own) });\n    Ok('),
  ('writes past the reply buffer', 'from_raw_parts_mut(at, length).copy_from_slice(bytes)', 'from_raw_parts_mut(at, length).copy_from_slice(bytes); *at.add(length) ^= 1', 'fake'),
  ('writes before a buffer', 'from_raw_parts_mut(at, length).copy_from_slice(bytes)', 'from_raw_parts_mut(at, length).copy_from_slice(bytes); *at.sub(1) ^= 1', 'fake'),
- ('changes a const buffer', 'model::look_up(slice(i, il), origin, number)', 'let n = model::look_up(slice(i, il), origin, number); if n > 16 { *(i as *mut u8).add(n as usize) ^= 1; } n', 'fake'),
- ('next changes the message', 'model::message_next(slice(m, ml), at, slice(r, rl));', 'model::message_next(slice(m, ml), at, slice(r, rl)); if number > 9 { *(m as *mut u8).add(at) ^= 1; }', 'fake'),
- ('next place with a high bit', 'put(r, rl, &record);\n    number\n}', 'put(r, rl, &record);\n    if number > 9 { number | 1 << 32 } else { number }\n}', 'fake'),
+ ('changes a const buffer', 'export!(ssaldorip_look_up(image,', 'export!(ssaldorip_look_up(mut image,', 'fake'),
+ ('next changes the message', 'export!(ssaldorip_message_next(given,', 'export!(ssaldorip_message_next(mut given,', 'fake'),
+ ('next place with a high bit', '        number\n    }\n}', '        if let (Call::MessageNext { .. }, 10..) = (call, number) { return number | 1 << 32; }\n        number\n    }\n}', 'fake'),
+ ('judge brings the server up', 'export!(ssaldorip_judge(state,', 'export!(ssaldorip_judge(mut state,', 'fake'),
+ ('first place with a high bit', '        number\n    }\n}', '        if let Call::MessageFirst = call { return number | 1 << 32; }\n        number\n    }\n}', 'fake'),
+ ('another version', 'pub const VERSION: u32 = 1;', 'pub const VERSION: u32 = 2;'),
 ]
-M[[m[0] for m in M].index('4 by message count')] = ('4 by message count',
-  'let mut new = Vec::new();\n        for record in message.records {', 'let mut new = Vec::new(); let all = message.records.len(); let h0 = state.held as usize;\n        for record in message.records {')
-# needs a second change: the count is used after the walk
-SECOND = {'4 by message count': ('refuse_if(state.held as usize + new.len() > HISTORY_WRITES, FULL)?;\n        let mut after', 'refuse_if(h0 + all > HISTORY_WRITES && !new.is_empty(), FULL)?;\n        let mut after')}
+# those that need a second change, in the same file
+SECOND = {
+ '4 by message count': ('refuse_if(state.held as usize + new.len() > HISTORY_WRITES, FULL)?;\n    let mut after', 'refuse_if(h0 + all > HISTORY_WRITES && !new.is_empty(), FULL)?;\n    let mut after'),
+ 'changes a const buffer': ('        number\n    }\n}', '        if let (Call::LookUp { .. }, 17..) = (call, number) { self.image[number] ^= 1; }\n        number\n    }\n}'),
+ 'next changes the message': ('        number\n    }\n}', '        if let (Call::MessageNext { at }, 10..) = (call, number) { self.given[at] ^= 1; }\n        number\n    }\n}'),
+ 'judge brings the server up': ('        number\n    }\n}', '        if let (Call::Judge, 0) = (call, number) { self.state[2] = 1; }\n        number\n    }\n}'),
+}
 # each sentence of soundness left out
 for m in re.finditer(r'    note\((.+), Fault::(\w+)\);\n', MODEL):
     M.append(('sound without ' + m.group(2), m.group(0), '    let _ = %s;\n' % m.group(1)))
@@ -176,8 +196,9 @@ def build(name, model, fake):
     r = sh('rustc', '--edition', '2021', '-C', 'opt-level=1', '-C', 'panic=abort', '--crate-type', 'staticlib', '--crate-name',
            'ssaldorip', '--cap-lints', 'allow', W + '/lib.rs', '-o', W + '/libssaldorip.a')
     assert r.returncode == 0, name + '\n' + r.stderr
+    # As the last of the link, since some linkers look for a name only in what comes behind it.
     r = sh('rustc', '--edition', '2021', '-O', 'src/bin/lockstep.rs', '--extern', 'ssaldorip_tests=' + W + '/libssaldorip_tests.rlib',
-           '-L', 'native=' + W, '-l', 'static=ssaldorip', '-o', W + '/lockstep')
+           '-C', 'link-arg=' + W + '/libssaldorip.a', '-o', W + '/lockstep')
     assert r.returncode == 0, name + '\n' + r.stderr
 
 def run(*args):
@@ -185,16 +206,15 @@ def run(*args):
     return r.returncode, r.stdout.strip().split('\n')
 
 for name, old, new, *where in M:
-    assert (FAKE if where else MODEL).count(old) == 1, (name, (FAKE if where else MODEL).count(old))
-    assert name not in SECOND or MODEL.count(SECOND[name][0]) == 1, name
+    text = FAKE if where else MODEL
+    assert text.count(old) == 1, (name, text.count(old))
+    assert name not in SECOND or text.count(SECOND[name][0]) == 1, name
 only = sys.argv[1:]
 missed, tried = [], 0
 for name, old, new, *where in M:
     if only and name not in only: continue
     tried += 1
-    text = FAKE if where else MODEL
-    assert text.count(old) == 1, (name, text.count(old))
-    text = text.replace(old, new)
+    text = (FAKE if where else MODEL).replace(old, new)
     if name in SECOND:
         o, n = SECOND[name]; assert text.count(o) == 1; text = text.replace(o, n)
     build(name, MODEL if where else text, text if where else FAKE)

@@ -1,65 +1,13 @@
-//! The calls of libssaldorip.a as include/ssaldorip.h declares them, and each as a safe function on slices. The only unsafe
-//! code of the package.
+//! Each call of libssaldorip.a as a safe function on slices. The only unsafe code of the package; rust/lockstep takes this
+//! file too, so that what it compares with its model is what the package runs.
 //!
-//! Why each call is safe: the library takes any bytes, numbers and lengths, reads and writes only within what is lent, and
-//! keeps no pointer. What it leaves to the caller is what a slice's type says: the pointer is not null, the length is true,
-//! and a `&mut` slice overlaps no other and is used by no other thread.
+//! Why each call is safe: the archive's version is that of our declarations. The library takes any bytes, numbers and lengths,
+//! reads and writes only within what is lent, and keeps no pointer. What it leaves to the caller is what a slice's type says:
+//! the pointer is not null, the length is true, and a `&mut` slice overlaps no other and is used by no other thread.
 
-#[rustfmt::skip]
-extern "C" {
-    fn ssaldorip_start(
-        n: u8, own: u8,
-        state: *mut u8, state_len: usize, history: *mut u8, history_len: usize, image: *mut u8, image_len: usize,
-    ) -> u32;
-    fn ssaldorip_read(
-        state: *mut u8, state_len: usize, history: *mut u8, history_len: usize, image: *mut u8, image_len: usize,
-        server: u8, phone: u8, cell: u16, asked: *const u8, asked_len: usize, reply: *mut u8, reply_len: usize,
-    ) -> u32;
-    fn ssaldorip_read_cut(
-        state: *mut u8, state_len: usize, history: *mut u8, history_len: usize, image: *mut u8, image_len: usize,
-        server: u8, phone: u8, cell: u16, asked: *const u8, asked_len: usize, stores: u32,
-    ) -> u32;
-    fn ssaldorip_write(
-        state: *mut u8, state_len: usize, history: *mut u8, history_len: usize, image: *mut u8, image_len: usize,
-        server: u8, phone: u8, cell: u16, value: u32, time: u32, asked: *const u8, asked_len: usize,
-        reply: *mut u8, reply_len: usize,
-    ) -> u32;
-    fn ssaldorip_write_cut(
-        state: *mut u8, state_len: usize, history: *mut u8, history_len: usize, image: *mut u8, image_len: usize,
-        server: u8, phone: u8, cell: u16, value: u32, time: u32, asked: *const u8, asked_len: usize, stores: u32,
-    ) -> u32;
-    fn ssaldorip_update(
-        state: *mut u8, state_len: usize, history: *mut u8, history_len: usize, image: *mut u8, image_len: usize,
-        server: u8, message: *const u8, message_len: usize,
-    ) -> u32;
-    fn ssaldorip_cut(
-        state: *mut u8, state_len: usize, history: *mut u8, history_len: usize, image: *mut u8, image_len: usize,
-        server: u8,
-    ) -> u32;
-    fn ssaldorip_recover(
-        state: *mut u8, state_len: usize, history: *mut u8, history_len: usize, image: *mut u8, image_len: usize,
-        server: u8,
-    ) -> u32;
-    fn ssaldorip_status(
-        state: *const u8, state_len: usize, history: *const u8, history_len: usize, image: *const u8, image_len: usize,
-        reply: *mut u8, reply_len: usize,
-    ) -> u32;
-    fn ssaldorip_look_up(image: *const u8, image_len: usize, origin: u8, number: u32) -> u32;
-    fn ssaldorip_message(
-        state: *const u8, state_len: usize, history: *const u8, history_len: usize, image: *const u8, image_len: usize,
-        out: *mut u8, out_len: usize,
-    ) -> u32;
-    fn ssaldorip_message_check(message: *const u8, message_len: usize) -> u32;
-    fn ssaldorip_message_write(
-        n: u8, sender: u8, records: *const u8, records_len: usize, out: *mut u8, out_len: usize,
-    ) -> u32;
-    fn ssaldorip_message_next(
-        message: *const u8, message_len: usize, at: usize, record: *mut u8, record_len: usize,
-    ) -> usize;
-    fn ssaldorip_session_raise(
-        session: *mut u8, session_len: usize, reply_vector: *const u8, reply_vector_len: usize,
-    ) -> u32;
-}
+use std::sync::OnceLock;
+
+use crate::sys;
 
 /// A server's three buffers, lent for a step.
 pub struct Lent<'a> {
@@ -76,34 +24,58 @@ pub struct Seen<'a> {
     pub image: &'a [u8],
 }
 
-/// Gives a call its three buffers, after the numbers `first` and before what `rest` lists.
-macro_rules! with_buffers {
-    ($call:ident($($first:expr),*; $lent:ident; $($rest:expr),* $(,)?)) => {
-        // SAFETY: the parts of `Lent` are slices for change, apart from each other and from every other slice given.
-        unsafe {
-            $call(
-                $($first,)*
-                $lent.state.as_mut_ptr(), $lent.state.len(),
-                $lent.history.as_mut_ptr(), $lent.history.len(),
-                $lent.image.as_mut_ptr(), $lent.image.len(),
-                $($rest),*
-            )
-        }
+/// The archive's version. The one call that is made without knowing it.
+pub fn version() -> u32 {
+    // SAFETY: nothing is lent, and every version of the archive has this call as it is.
+    unsafe { sys::ssaldorip_version() }
+}
+
+/// Every call passes through here. The archive is asked once.
+fn test_version() {
+    static ARCHIVE: OnceLock<u32> = OnceLock::new();
+    must_be_ours(*ARCHIVE.get_or_init(version));
+}
+
+fn must_be_ours(archive: u32) {
+    let ours = sys::VERSION;
+    // An archive of another version would take some arguments for others, and spoil memory without a word.
+    assert!(
+        archive == ours,
+        "libssaldorip.a is not the package's own: it has version {archive} of the interface, the package {ours}"
+    );
+}
+
+/// Makes a call. `ref x` is a slice lent to be read, `mut x` one lent for change, `all ref x` and `all mut x` are the three
+/// buffers of a `Seen` and of a `Lent`; what else stands in the list is a number.
+macro_rules! call {
+    ($call:ident: $($list:tt)*) => { call!(@$call [] $($list)*,) };
+    (@$call:ident $done:tt all $how:tt $x:ident, $($rest:tt)*) => {
+        call!(@$call $done $how $x.state, $how $x.history, $how $x.image, $($rest)*)
     };
+    (@$call:ident [$($done:tt)*] ref $x:expr, $($rest:tt)*) => {
+        call!(@$call [$($done)* $x.as_ptr(), $x.len(),] $($rest)*)
+    };
+    (@$call:ident [$($done:tt)*] mut $x:expr, $($rest:tt)*) => {
+        call!(@$call [$($done)* $x.as_mut_ptr(), $x.len(),] $($rest)*)
+    };
+    (@$call:ident [$($done:tt)*] $number:expr, $($rest:tt)*) => { call!(@$call [$($done)* $number,] $($rest)*) };
+    (@$call:ident [$($done:tt)*]) => {{
+        test_version();
+        // SAFETY: each pointer and length is a slice's, and the slices lent for change are `&mut` ones.
+        unsafe { sys::$call($($done)*) }
+    }};
 }
 
 pub fn start(n: u8, own: u8, lent: Lent) -> u32 {
-    with_buffers!(ssaldorip_start(n, own; lent;))
+    call!(ssaldorip_start: n, own, all mut lent)
 }
 
 pub fn read(lent: Lent, server: u8, phone: u8, cell: u16, asked: &[u8], reply: &mut [u8]) -> u32 {
-    with_buffers!(ssaldorip_read(
-        ; lent; server, phone, cell, asked.as_ptr(), asked.len(), reply.as_mut_ptr(), reply.len(),
-    ))
+    call!(ssaldorip_read: all mut lent, server, phone, cell, ref asked, mut reply)
 }
 
 pub fn read_cut(lent: Lent, server: u8, phone: u8, cell: u16, asked: &[u8], stores: u32) -> u32 {
-    with_buffers!(ssaldorip_read_cut(; lent; server, phone, cell, asked.as_ptr(), asked.len(), stores))
+    call!(ssaldorip_read_cut: all mut lent, server, phone, cell, ref asked, stores)
 }
 
 #[rustfmt::skip]
@@ -111,9 +83,7 @@ pub fn read_cut(lent: Lent, server: u8, phone: u8, cell: u16, asked: &[u8], stor
 pub fn write(
     lent: Lent, server: u8, phone: u8, cell: u16, value: u32, time: u32, asked: &[u8], reply: &mut [u8],
 ) -> u32 {
-    with_buffers!(ssaldorip_write(
-        ; lent; server, phone, cell, value, time, asked.as_ptr(), asked.len(), reply.as_mut_ptr(), reply.len(),
-    ))
+    call!(ssaldorip_write: all mut lent, server, phone, cell, value, time, ref asked, mut reply)
 }
 
 #[rustfmt::skip]
@@ -121,76 +91,76 @@ pub fn write(
 pub fn write_cut(
     lent: Lent, server: u8, phone: u8, cell: u16, value: u32, time: u32, asked: &[u8], stores: u32,
 ) -> u32 {
-    with_buffers!(ssaldorip_write_cut(
-        ; lent; server, phone, cell, value, time, asked.as_ptr(), asked.len(), stores,
-    ))
+    call!(ssaldorip_write_cut: all mut lent, server, phone, cell, value, time, ref asked, stores)
 }
 
 pub fn update(lent: Lent, server: u8, message: &[u8]) -> u32 {
-    with_buffers!(ssaldorip_update(; lent; server, message.as_ptr(), message.len()))
+    call!(ssaldorip_update: all mut lent, server, ref message)
 }
 
 pub fn cut(lent: Lent, server: u8) -> u32 {
-    with_buffers!(ssaldorip_cut(; lent; server))
+    call!(ssaldorip_cut: all mut lent, server)
 }
 
 pub fn recover(lent: Lent, server: u8) -> u32 {
-    with_buffers!(ssaldorip_recover(; lent; server))
+    call!(ssaldorip_recover: all mut lent, server)
+}
+
+pub fn judge(seen: Seen) -> u32 {
+    call!(ssaldorip_judge: all ref seen)
 }
 
 pub fn status(seen: Seen, reply: &mut [u8]) -> u32 {
-    // SAFETY: all are slices; the library changes `reply` alone, which is apart from the others.
-    unsafe {
-        ssaldorip_status(
-            seen.state.as_ptr(),
-            seen.state.len(),
-            seen.history.as_ptr(),
-            seen.history.len(),
-            seen.image.as_ptr(),
-            seen.image.len(),
-            reply.as_mut_ptr(),
-            reply.len(),
-        )
-    }
+    call!(ssaldorip_status: all ref seen, mut reply)
 }
 
 pub fn look_up(image: &[u8], origin: u8, number: u32) -> u32 {
-    // SAFETY: a slice, which the library only reads.
-    unsafe { ssaldorip_look_up(image.as_ptr(), image.len(), origin, number) }
+    call!(ssaldorip_look_up: ref image, origin, number)
 }
 
 pub fn message(seen: Seen, out: &mut [u8]) -> u32 {
-    // SAFETY: all are slices; the library changes `out` alone, which is apart from the others.
-    unsafe {
-        ssaldorip_message(
-            seen.state.as_ptr(),
-            seen.state.len(),
-            seen.history.as_ptr(),
-            seen.history.len(),
-            seen.image.as_ptr(),
-            seen.image.len(),
-            out.as_mut_ptr(),
-            out.len(),
-        )
-    }
+    call!(ssaldorip_message: all ref seen, mut out)
 }
 
 pub fn message_check(message: &[u8]) -> u32 {
-    // SAFETY: a slice, which the library only reads.
-    unsafe { ssaldorip_message_check(message.as_ptr(), message.len()) }
+    call!(ssaldorip_message_check: ref message)
 }
 
 pub fn message_write(n: u8, sender: u8, records: &[u8], out: &mut [u8]) -> u32 {
-    // SAFETY: two slices apart from each other; the library changes `out` alone.
-    unsafe { ssaldorip_message_write(n, sender, records.as_ptr(), records.len(), out.as_mut_ptr(), out.len()) }
+    call!(ssaldorip_message_write: n, sender, ref records, mut out)
+}
+
+pub fn message_first(message: &[u8]) -> usize {
+    call!(ssaldorip_message_first: ref message)
 }
 
 pub fn message_next(message: &[u8], at: usize, record: &mut [u8]) -> usize {
-    // SAFETY: two slices apart from each other; the library changes `record` alone.
-    unsafe { ssaldorip_message_next(message.as_ptr(), message.len(), at, record.as_mut_ptr(), record.len()) }
+    call!(ssaldorip_message_next: ref message, at, mut record)
 }
 
 pub fn session_raise(session: &mut [u8], reply_vector: &[u8]) -> u32 {
-    // SAFETY: two slices apart from each other; the library changes `session` alone.
-    unsafe { ssaldorip_session_raise(session.as_mut_ptr(), session.len(), reply_vector.as_ptr(), reply_vector.len()) }
+    call!(ssaldorip_session_raise: mut session, ref reply_vector)
+}
+
+#[cfg(test)]
+mod tests {
+    use super::*;
+
+    #[test]
+    fn the_archive_is_our_own() {
+        assert_eq!(version(), sys::VERSION);
+        test_version();
+    }
+
+    #[test]
+    #[should_panic(expected = "libssaldorip.a is not the package's own")]
+    fn an_older_archive_is_found() {
+        must_be_ours(sys::VERSION - 1);
+    }
+
+    #[test]
+    #[should_panic(expected = "libssaldorip.a is not the package's own")]
+    fn a_newer_archive_is_found() {
+        must_be_ours(sys::VERSION + 1);
+    }
 }

@@ -5,7 +5,11 @@
 //! stays read: a server that lacks it answers "not yet". A write that was answered is not lost by a cut.
 //!
 //! This package is a thin, safe cover over `libssaldorip.a`, whose code is proved to follow its rules on every input. The
-//! cover only turns bytes into types: every decision is the library's.
+//! cover only turns bytes into types: every decision is the library's. Its first call asks the archive for its version, and
+//! panics if that is not [`VERSION`]: then the program was linked with an archive that is not the package's own.
+//!
+//! Two orders are the programs' own to keep, or what is promised can be lost: a server's program stores the image before a
+//! reply goes out ([`Server`]), and a phone's stores the session before it shows a value ([`Session`]).
 //!
 //! - [`Server`]: the steps of a server (read, write, update, cut, recovery) and its reports.
 //! - [`Session`]: what a phone has read, raised by each read's reply.
@@ -48,10 +52,12 @@ mod message;
 mod refusal;
 mod server;
 mod session;
+mod sys;
 mod vector;
 
 pub use message::{Message, Record, Records};
 pub use refusal::{NoRefusal, Refusal};
 pub use server::{look_up, Server, Status, Write, HISTORY_LEN, IMAGE_LEN, STATE_LEN, WRITE_STORES};
 pub use session::{Read, Session};
+pub use sys::VERSION;
 pub use vector::{Cell, PhoneId, ServerId, Vector};

@@ -184,7 +184,7 @@ impl Message {
 
     /// The records in order.
     pub fn records(&self) -> Records<'_> {
-        Records::of(&self.bytes, Message::HEADER_LEN)
+        Records::of(&self.bytes, ffi::message_first(&self.bytes))
     }
 }
 

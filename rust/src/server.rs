@@ -30,8 +30,9 @@ const LOG_COUNT_AT: usize = 6;
 /// A server, up or down. It owns its state, its history and its image, and these are always sound together.
 ///
 /// State and history are the server's memory, which a cut loses. The image is what is stored, and alone brings the server
-/// back: write [`Server::image`] to a disk, whole or not at all (a new file, then a rename), before the reply of a write or a
-/// read goes out, and after a restart give it to [`Server::from_image`] and recover.
+/// back: store [`Server::image`] before the reply of a write or a read goes out, and after a restart give it to
+/// [`Server::from_image`] and recover. Store it whole or not at all (a new file, then a rename), or else in store order: the
+/// bytes of the new records in order, then the count, as [`Server::write_cut`] and [`Server::read_cut`] list the stores.
 ///
 /// A step that is refused changes nothing. The library judges state and image anew at every call.
 #[derive(Clone, PartialEq, Eq)]
@@ -74,18 +75,19 @@ impl Server {
     }
 
     /// A down server with this stored image, to be brought back by [`Server::recover`]. Bytes past [`IMAGE_LEN`] are left out.
+    /// This also answers whether a stored image is good.
     ///
     /// # Errors
     ///
     /// [`Refusal::TooShort`] for fewer bytes than [`IMAGE_LEN`]; then [`Refusal::Unsound`] for an image that no down server
     /// has.
     pub fn from_image(image: &[u8]) -> Result<Server, Refusal> {
-        // A look-up takes exactly the images that suit a down state. Number 0 is never there, so it only judges.
-        look_up(image, ServerId(0), 0)?;
-        let mut server = Server::blank();
-        server.image.copy_from_slice(&image[..IMAGE_LEN]);
-        server.state[..2].copy_from_slice(&image[..2]);
-        Ok(server)
+        // Down, with the image's N and own number. An image without these two bytes is refused as too short.
+        let mut state = [0; STATE_LEN];
+        if let Some(servers) = image.get(..2) {
+            state[..2].copy_from_slice(servers);
+        }
+        Server::from_parts(&state, &[0; HISTORY_LEN], image)
     }
 
     /// The server, up or down, of these three buffers, which are copied. Bytes past their sizes are left out.
@@ -94,11 +96,7 @@ impl Server {
     ///
     /// [`Refusal::TooShort`] for a buffer shorter than its size; then [`Refusal::Unsound`] if they are not sound together.
     pub fn from_parts(state: &[u8], history: &[u8], image: &[u8]) -> Result<Server, Refusal> {
-        match report_status(ffi::Seen { state, history, image }) {
-            // A sound server that is down has no status, but is a server.
-            Ok(_) | Err(Refusal::NotUp) => {}
-            Err(refusal) => return Err(refusal),
-        }
+        Refusal::answer(ffi::judge(ffi::Seen { state, history, image }))?;
         let mut server = Server::blank();
         server.state.copy_from_slice(&state[..STATE_LEN]);
         server.history.copy_from_slice(&history[..HISTORY_LEN]);
@@ -123,7 +121,8 @@ impl Server {
     /// The same read, cut after its first `stores` stores: these alone are in the image, and the server is down. For trying
     /// cuts one by one.
     ///
-    /// A checkpoint has 28 stores for each record that it adds, and 2 for the counts. Any other read has none.
+    /// A checkpoint has 28 stores for each record that it adds, and then 2 for the counts: its own, and the log's, which is
+    /// then zero. Any other read has none.
     ///
     /// # Errors
     ///
@@ -150,7 +149,7 @@ impl Server {
     }
 
     /// The same write, cut after its first `stores` stores, of [`WRITE_STORES`]: these alone are in the image, and the server
-    /// is down. For trying cuts one by one.
+    /// is down. For trying cuts one by one. The stores are the record's 28 bytes in order, then the log count.
     ///
     /// # Errors
     ///
@@ -192,13 +191,26 @@ impl Server {
         Refusal::answer(ffi::recover(self.lend(), own))
     }
 
+    /// Are state, history and image sound together, up or down? So they were when the server was made, and every step keeps
+    /// them so: this asks the library again, where the memory itself is in doubt.
+    ///
+    /// # Errors
+    ///
+    /// [`Refusal::Unsound`] if not.
+    pub fn judge(&self) -> Result<(), Refusal> {
+        Refusal::answer(ffi::judge(self.seen()))
+    }
+
     /// How many phones are in CR, and the lowest numbered one.
     ///
     /// # Errors
     ///
     /// [`Refusal::NotUp`].
     pub fn status(&self) -> Result<Status, Refusal> {
-        report_status(self.seen())
+        let mut reply = [0; 2];
+        Refusal::answer(ffi::status(self.seen(), &mut reply))?;
+        let [phones, lowest] = reply;
+        Ok(Status { phones, lowest: (phones > 0).then_some(PhoneId(lowest)) })
     }
 
     /// The server's own update message: its history, for the other servers.
@@ -314,11 +326,4 @@ pub fn look_up(image: &[u8], origin: ServerId, number: u32) -> Result<Option<Rec
         refusal @ 1..=9 => Err(Refusal::returned(refusal)),
         place => Ok(Some(Record::from_bytes(&bytes_at(image, place as usize)))),
     }
-}
-
-fn report_status(seen: ffi::Seen) -> Result<Status, Refusal> {
-    let mut reply = [0; 2];
-    Refusal::answer(ffi::status(seen, &mut reply))?;
-    let [phones, lowest] = reply;
-    Ok(Status { phones, lowest: (phones > 0).then_some(PhoneId(lowest)) })
 }

@@ -8,6 +8,9 @@ use crate::vector::{bytes_at, u32_at, Vector};
 ///
 /// A read request carries it, and each read's reply raises it. A write request carries zero, and a write's reply leaves it:
 /// that is why [`Session::raise`] takes a [`Read`].
+///
+/// A phone stores its session, raised by a reply, before it shows the reply's value: else it may forget that the grower has
+/// seen the value, and take an older one for the newest.
 #[derive(Clone, Copy, Debug, Default, PartialEq, Eq, Hash)]
 pub struct Session {
     vector: Vector,

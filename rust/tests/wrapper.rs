@@ -249,7 +249,9 @@ fn refusal_9() {
     assert_eq!(Server::from_parts(state, &history[..HISTORY_LEN - 1], image), Err(Refusal::TooShort));
     assert_eq!(Server::from_parts(state, history, &image[..IMAGE_LEN - 1]), Err(Refusal::TooShort));
     assert_eq!(Server::from_image(&image[..IMAGE_LEN - 1]), Err(Refusal::TooShort));
-    assert_eq!(Server::from_image(&[]), Err(Refusal::TooShort));
+    for short in [0, 1, 2] {
+        assert_eq!(Server::from_image(&image[..short]), Err(Refusal::TooShort));
+    }
     assert_eq!(look_up(&image[..IMAGE_LEN - 1], ServerId(0), 1), Err(Refusal::TooShort));
 }
 
@@ -286,6 +288,7 @@ fn recovery_from_a_stored_image() {
     let mut back = Server::from_image(&stored).unwrap();
     assert_eq!((back.servers(), back.own(), back.is_up()), (3, ServerId(1), false));
     assert_eq!((back.vector(), back.writes().len()), (Vector::ZERO, 0));
+    assert_eq!(back.judge(), Ok(()));
     back.recover().unwrap();
     assert_eq!(back.image(), server.image());
     assert_eq!(back.history(), server.history());
@@ -312,6 +315,7 @@ fn parts_up_and_down() {
     for _ in 0..2 {
         let longer = [&server.image()[..], &[9; 5]].concat();
         assert_eq!(Server::from_parts(server.state(), server.history(), &longer), Ok(server.clone()));
+        assert_eq!(server.judge(), Ok(()));
         if server.is_up() {
             server.cut().unwrap();
         }

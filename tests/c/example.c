@@ -33,6 +33,15 @@ static void done(const char *what, uint32_t refusal) {
     }
 }
 
+/* Ends the program if the archive is not the header's: no other call is then safe. */
+static void same_version(void) {
+    if (ssaldorip_version() != SSALDORIP_VERSION) {
+        printf("the archive has version %" PRIu32 ", the header %d\n", ssaldorip_version(), SSALDORIP_VERSION);
+        exit(1);
+    }
+    printf("archive and header are of one version\n");
+}
+
 static void print_vector(const uint8_t *vector) {
     for (int i = 0; i < SERVERS; i++) printf(" %u", u16_at(vector + 2 * i));
     printf("\n");
@@ -69,6 +78,13 @@ static void read_note(struct server *s, uint8_t *session) {
     done("raise", ssaldorip_session_raise(session, SSALDORIP_VECTOR_SIZE, reply + 5, SSALDORIP_VECTOR_SIZE));
 }
 
+/* Whether a server can go on with what it has or, if down, be brought back from it. */
+static void print_judged(const struct server *s) {
+    uint32_t refusal = ssaldorip_judge(BUFFERS(s));
+    if (refusal != SSALDORIP_UNSOUND) done("judge", refusal);
+    printf("server %d: %s\n", s->own, refusal == 0 ? "sound" : "unsound");
+}
+
 static void print_status(const struct server *s) {
     uint8_t reply[SSALDORIP_STATUS_REPLY_SIZE];
     uint32_t refusal = ssaldorip_status(BUFFERS(s), reply, sizeof reply);
@@ -94,7 +110,7 @@ static void send_message(const struct server *from, struct server *to) {
 /* The reader of a message, from its first record to its end. */
 static void print_records(const uint8_t *message, size_t length) {
     uint8_t record[SSALDORIP_RECORD_SIZE];
-    size_t at = SSALDORIP_MESSAGE_HEADER;
+    size_t at = ssaldorip_message_first(message, length);
     /* The record has its size, so that nothing is refused: the reading ends with 0. */
     while ((at = ssaldorip_message_next(message, length, at, record, sizeof record)) != 0)
         printf("a record: origin %d, cell %u, value %" PRIu32 "\n", record[0], u16_at(record + 2), u32_at(record + 4));
@@ -115,6 +131,7 @@ int main(void) {
     uint8_t session[SSALDORIP_VECTOR_SIZE] = {0};
     uint8_t records[2 * SSALDORIP_RECORD_SIZE], message[SSALDORIP_MESSAGE_HEADER + sizeof records];
 
+    same_version();
     start(&zeroth, 0);
     start(&first, 1);
 
@@ -158,10 +175,14 @@ int main(void) {
     done("read_cut", ssaldorip_read_cut(BUFFERS(&zeroth), zeroth.own, PHONE, CELL, session, sizeof session, 1));
     print_status(&zeroth);
 
-    /* The restart of a program: the image alone is left. */
+    /* The restart of a program: the image alone is left. It is sound, and with another log count it is not. */
     memset(zeroth.state, 0, sizeof zeroth.state);
     memset(zeroth.history, 0, sizeof zeroth.history);
     memcpy(zeroth.state, zeroth.image, 2);
+    print_judged(&zeroth);
+    zeroth.image[6]++;
+    print_judged(&zeroth);
+    zeroth.image[6]--;
     done("recover", ssaldorip_recover(BUFFERS(&zeroth), zeroth.own));
     print_status(&zeroth);
     read_note(&zeroth, session);
@@ -172,6 +193,8 @@ int main(void) {
     printf("a message of %u writes in %u bytes, checked: %" PRIu32 "\n", u16_at(message + 2), u16_at(message + 6),
            ssaldorip_message_check(message, sizeof message));
     print_records(message, sizeof message);
-    printf("one byte less: refused %" PRIu32 "\n", ssaldorip_message_check(message, sizeof message - 1));
+    printf("one byte less: refused %" PRIu32 ", and read as no record\n",
+           ssaldorip_message_check(message, sizeof message - 1));
+    print_records(message, sizeof message - 1);
     return 0;
 }

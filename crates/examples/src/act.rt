@@ -3,19 +3,19 @@ ghost use mathlib.Core.Path.{_≡_};
 ghost use mathlib.Core.List.{_∷_};
 ghost use lib.ListN.{replicate};
 use crate::tell;
+use calls::start;
+use calls::status;
+use memory::image::Image;
 use notes::index::PhoneId;
 use notes::index::ServerId;
-use notes::raw;
+use notes::number;
 use notes::vector::Vector;
-use reports::start;
-use reports::status;
 use rules::answer::Outcome;
 use rules::event::Event;
 use rules::event::Request;
 use rules::event::What;
 use rules::state::State;
 use server::step;
-use sound::image::Image;
 
 pub(crate) type History = [u8; Image::HISTORY_LEN];
 
@@ -43,11 +43,11 @@ fn told(o: Outcome, history: &History, image: &Stored) -> State {
     tell::reply(answer, vector, s.n);
     let v = s.vector;
     tell::vector(b"  V", v, s.n);
-    let checkpoint = raw::wide32(raw::u16_at(image, Image::CHECKPOINT));
-    let log = raw::wide32(raw::u16_at(image, Image::LOG));
+    let checkpoint = number::wide32(number::raw::u16_at(image, Image::CHECKPOINT));
+    let log = number::wide32(number::raw::u16_at(image, Image::LOG));
     tell::say(
         b"  held, checkpoint, log",
-        &[raw::wide32(s.held), checkpoint, log],
+        &[number::wide32(s.held), checkpoint, log],
     );
     tell::status(status::status(s, history, image));
     s

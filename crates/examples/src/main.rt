@@ -10,7 +10,7 @@ mod reads;
 mod tell;
 mod updates;
 
-use sound::image::Image;
+use memory::image::Image;
 
 // The servers use the same buffers one after the other: starting anew takes them as they are.
 fn main() {

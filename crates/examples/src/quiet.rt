@@ -3,17 +3,17 @@ ghost use Rattle.io.specs.Counts.{Counts};
 use crate::act;
 use crate::act::History;
 use crate::act::Stored;
+use calls::message;
+use calls::start;
+use memory::image::Image;
 use notes::index::PhoneId;
 use notes::index::ServerId;
 use notes::vector::Vector;
-use reports::message;
-use reports::start;
 use rules::answer::Message;
 use rules::event::Event;
 use rules::event::What;
 use rules::state::State;
 use server::step;
-use sound::image::Image;
 
 // So many writes of a value by phone 5.
 pub(crate) fn writes(

@@ -2,12 +2,12 @@
 ghost use mathlib.Core.Path.{_≡_};
 ghost use lib.ListN.{take};
 use libc::STDOUT_FILENO;
+use memory::refusal;
 use notes::message::Written;
-use notes::raw;
+use notes::number;
 use notes::vector::Vector;
 use rules::answer::Answer;
 use rules::answer::Status;
-use sound::refusal;
 use text::line;
 use text::listing;
 
@@ -45,14 +45,14 @@ fn front(xs: &[u32], n: u8) -> &[u32]
 // The positions of a vector that N servers use.
 pub(crate) fn vector(name: &[u8], v: Vector, n: u8) {
     let xs = [
-        raw::wide32(v.counts[0]),
-        raw::wide32(v.counts[1]),
-        raw::wide32(v.counts[2]),
-        raw::wide32(v.counts[3]),
-        raw::wide32(v.counts[4]),
-        raw::wide32(v.counts[5]),
-        raw::wide32(v.counts[6]),
-        raw::wide32(v.counts[7]),
+        number::wide32(v.counts[0]),
+        number::wide32(v.counts[1]),
+        number::wide32(v.counts[2]),
+        number::wide32(v.counts[3]),
+        number::wide32(v.counts[4]),
+        number::wide32(v.counts[5]),
+        number::wide32(v.counts[6]),
+        number::wide32(v.counts[7]),
     ];
     say(name, front(&xs, n));
 }

@@ -26,11 +26,11 @@ use Rattle.rules.specs.declared.state.State.{State}
 use Rattle.rules.specs.Writes.{server, keep, writesOf, tally}
 use Rattle.rules.specs.Memory.{Memory, writes}
 use Rattle.rules.specs.Answer.{Effect, unless}
-use Rattle.rules.specs.Request.{newRecord, noted, cleared, due, ready, performed, written, served, cutAfter, requestRefusals, cutRefusal, request, requestCut}
+use Rattle.rules.specs.Request.{newRecord, noted, due, ready, performed, written, served, cutAfter, requestRefusals, cutRefusals, request, requestCut}
 use Rattle.rules.specs.Step.{step}
 use Rattle.laws.proofs.Passed as passed
 use Rattle.laws.proofs.Passed.{asked, asked-cut}
-use Rattle.laws.proofs.Reading.{noted-is}
+use Rattle.laws.proofs.Reading.{ready-is}
 use Rattle.laws.proofs.Writes.{length-tally, at-tally, writesOf-here, writesOf-other}
 use Rattle.farm.specs.Farm.{Asked, Replied, Begun, Farm, changed, askable, stepAt, beginning, recordOf, serving, servingCut}
 use Rattle.farm.proofs.Prefix.{Pre, mem-each, each-mem, changed-same, changed-other}
@@ -91,12 +91,8 @@ module _ (n : ℕ) (j : ServerId) (m : Memory) (s : Sane n j m) (i : PhoneId) (v
 
   -- a server that served is up
   served-up : (q : Request) → passed.Asked m j i q v → served m i q .after .state .up ≡ true
-  unfolding served performed ready noted due written cleared
-  served-up (Read cell) a = go (due m i (Read cell))
-    where
-      go : (b : Bool) → cond b (cleared (noted (m .state) i (Read cell))) (noted (m .state) i (Read cell)) .up ≡ true
-      go true = ap (λ (t : State). t .up) (noted-is (m .state) i (Read cell)) ∙ a .up
-      go false = ap (λ (t : State). t .up) (noted-is (m .state) i (Read cell)) ∙ a .up
+  unfolding served performed ready noted due written
+  served-up (Read cell) a = ap (λ (t : State). t .up) (ready-is m i (Read cell)) ∙ a .up
   served-up (Write cell value time) a = a .up
 
 module _ (n : ℕ) (f : Farm) (i : Inv n f) (j : ServerId) (q : Asked) (y : List·Memᴰ q (f .sent .requests)) where
@@ -161,7 +157,7 @@ module _ (n : ℕ) (f : Farm) (i : Inv n f) (j : ServerId) (q : Asked) (y : List
         let low = at-server n f i j (what.RequestCut (q .phone) (q .request) k) (q .vector) [] done (below-none n f i) in
         let sane = before-sane n f i j (what.RequestCut (q .phone) (q .request) k) (q .vector) [] done (below-none n f i) in
         let sound = after-sane n f i j (what.RequestCut (q .phone) (q .request) k) (q .vector) [] done (below-none n f i) in
-        let rows = requestRefusals m j (q .phone) (q .request) (q .vector) ++ cutRefusal m (q .phone) (q .request) k ∷ [] in
+        let rows = cutRefusals m j (q .phone) (q .request) k (q .vector) in
         let p = done-none (first rows) m (cutAfter m (q .phone) (q .request) k) done in
         let x = asked-cut m j (q .phone) (q .request) (q .vector) k p .0 in
         let same = ap (λ r. unless r m (cutAfter m (q .phone) (q .request) k) .after) p in

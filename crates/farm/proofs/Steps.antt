@@ -28,10 +28,9 @@ use Rattle.rules.specs.declared.event.Event.{Event}
 use Rattle.rules.specs.declared.event.Request.{Request}
 use Rattle.rules.specs.declared.event.Request.the-variants.{Read, Write}
 use Rattle.rules.specs.declared.event.What.the-variants as what
-use Rattle.rules.specs.declared.state.ReadTable.{ReadTable}
 use Rattle.rules.specs.declared.state.State.{State}
 use Rattle.rules.specs.Writes.{writesOf, countOf, tally}
-use Rattle.rules.specs.Memory.{Memory, memory, withState, downOf, noting, noReads, writes}
+use Rattle.rules.specs.Memory.{Memory, memory, withState, downOf, noting, writes}
 use Rattle.rules.specs.Image.{historySize, imageSize, headerOk, checkpoint, log, stored}
 use Rattle.rules.specs.Sound.{recovered, recoveredState, recoveredHistory, recover, isZero, suits, soundUp, soundDown, sound}
 use Rattle.rules.specs.Request.{newRecord, written, noted, cleared, due, ownPlan, plan, ready, performed, served, cutAfter}
@@ -43,7 +42,7 @@ use Rattle.laws.proofs.Sound.{Facts, facts, kept-all, log-empty, own-again, oth
 use Rattle.laws.proofs.Open.{Up, opened, own-low, recovers-lacked}
 use Rattle.laws.proofs.Passed.{Asked, Brought}
 use Rattle.laws.proofs.Newest.{like}
-use Rattle.laws.proofs.Reading.{noted-is, cp, OnTheWay, before, between, after, checkpoint-way}
+use Rattle.laws.proofs.Reading.{ready-is, cp, OnTheWay, before, between, after, checkpoint-way}
 use Rattle.laws.proofs.Writing as writing
 use Rattle.laws.proofs.Keeps.{appended-new, recoveredIn, recovered-fit, recovered-writes, step-sound}
 use Rattle.laws.proofs.Stays.{step-bytes}
@@ -109,18 +108,6 @@ record Shape (n : ℕ) (j : ServerId) (m : Memory) : Type 0 where
   pub servers : m .state .n ≡ n
   pub own : m .state .own ≡ j
 
--- a request goes on from a state that differs in CR, RW and nWrites at most
-ready-is : (m : Memory) (i : PhoneId) (q : Request) → (cr : ℕ) × (rw : ReadTable) × (k : ℕ) × (ready m i q ≡ noting cr rw k (m .state))
-unfolding ready cleared
-ready-is m i q = go (due m i q)
-  where
-    t : State
-    t = noted (m .state) i q
-
-    go : (b : Bool) → (cr : ℕ) × (rw : ReadTable) × (k : ℕ) × (cond b (cleared t) t ≡ noting cr rw k (m .state))
-    go true = (0, noReads, 0, ap cleared (noted-is (m .state) i q))
-    go false = (t .cr, t .rw, m .state .nwrites, noted-is (m .state) i q)
-
 -- what soundness says of the writes kept and of the image's header, up or down
 record Whole (m : Memory) (h : List Record) : Type 0 where
   pub header : headerOk (m .state .n) (m .state .own) (m .image) ≡ true
@@ -144,10 +131,10 @@ module _ (n : ℕ) (j : ServerId) (m : Memory) (s : Sane n j m) where
   served-shape : (i : PhoneId) (q : Request) → Shape n j (served m i q .after)
   unfolding served performed written
   served-shape i (Read cell) =
-      let e = ready-is m i (Read cell) .3 in
+      let e = ready-is m i (Read cell) in
       shaped _ _ _ (ap (λ t. t .n) e) (ap (λ t. t .own) e) (s .history) (rw length-stored (s .image))
   served-shape i (Write cell value time) =
-      let e = ready-is m i (Write cell value time) .3 in
+      let e = ready-is m i (Write cell value time) in
       shaped _ _ _ (ap (λ t. t .n) e) (ap (λ t. t .own) e) (rw length-sets (s .history)) (rw length-stored (s .image))
 
   recovered-long : historySize ≤ length (recover m .history)
@@ -227,7 +214,7 @@ module _ (n : ℕ) (j : ServerId) (m : Memory) (s : Sane n j m) where
   pub kept-read :
       (i : PhoneId) (cell : ℕ) (v : Vector) → Asked m j i (Read cell) v → keeps (served m i (Read cell) .after) ≡ keeps m
   unfolding served performed
-  kept-read i cell v a = let e = ready-is m i (Read cell) .3 in rw (ap (λ t. t .up) e, ap (λ t. t .held) e, a .up)
+  kept-read i cell v a = let e = ready-is m i (Read cell) in rw (ap (λ t. t .up) e, ap (λ t. t .held) e, a .up)
 
   module _
       (i : PhoneId)

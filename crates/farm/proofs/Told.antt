@@ -7,13 +7,12 @@ use mathlib.Core.Option.{Option, none, some, Option·map}
 use mathlib.Core.Path.{_≡_, refl, _∙_}
 use native.Mathlib.Omega.{arith}
 use borrow.Author.Tests.{le-leb, not-false}
-use lib.Dec.{ltb}
 use lib.ListN.{length, getD, take, drop}
 use lib.Seq.{take-append-seam}
 use Rattle.notes.specs.Bytes.{toBytes}
 use Rattle.notes.specs.Index.{serverOk}
 use Rattle.notes.specs.Record.{recordBytes}
-use Rattle.notes.specs.Reply.{given, first, fill}
+use Rattle.notes.specs.Reply.{first, fill}
 use Rattle.notes.specs.Message.{headerSize, historyMost, messageSize, headerOf, messageOf, recordsOk, messageN, messageSender, brought, messageOk}
 use Rattle.notes.specs.declared.index.ServerId.{ServerId}
 use Rattle.notes.specs.declared.record.Record.{Record}
@@ -23,12 +22,11 @@ use Rattle.notes.proofs.Records.{Fits, length-records, records-fit}
 use Rattle.notes.proofs.Messages.{server-facts, said-n, said-sender}
 use Rattle.notes.proofs.Round.{brought-back, written-right}
 use Rattle.rules.specs.declared.answer.Refusal.{Refusal}
-use Rattle.rules.specs.declared.answer.Refusal.the-variants.{TooShort}
 use Rattle.rules.specs.declared.answer.Verdict.the-variants as verdict
-use Rattle.rules.specs.Answer.{refusalReply, head, isDown}
+use Rattle.rules.specs.Answer.{refusalReply, isDown}
 use Rattle.rules.specs.Memory.{Memory, writes}
 use Rattle.rules.specs.Sound.{sound}
-use Rattle.rules.specs.Calls.{ownMessage, message}
+use Rattle.rules.specs.Calls.{roomRefusals, messageRefusals, ownMessage, message}
 use Rattle.laws.proofs.Octets.{below-cons, below-append, below-toBytes, below-recordBytes}
 use Rattle.laws.proofs.Stores.{shows-server}
 use Rattle.laws.proofs.Open.{Up, opened}
@@ -94,9 +92,8 @@ pub told-bytes :
     → (m .state .up ≡ true) × (sound m ≡ true) × (take (getD (message m out .reply .values) 0 0) (message m out .output) ≡ ownMessage m)
 unfolding message
 told-bytes m out e =
-    let rest = given (ltb (length out) (messageSize (m .state .held))) TooShort ∷ [] in
-    let r = done-none (first (head m (isDown m) ++ rest)) (ownMessage m) out e in (
-      not-false (m .state .up) (head-right m (isDown m) rest r),
-      head-known m (isDown m) rest r .sound,
+    let r = done-none (first (messageRefusals m out)) (ownMessage m) out e in (
+      not-false (m .state .up) (head-right m (isDown m) (roomRefusals m out) r),
+      head-known m (isDown m) (roomRefusals m out) r .sound,
       rw r (take-append-seam (ownMessage m) (drop (length (ownMessage m)) out)),
     )

@@ -24,10 +24,10 @@ use Rattle.rules.specs.declared.event.Request.{Request}
 use Rattle.rules.specs.declared.event.What.{What}
 use Rattle.rules.specs.declared.event.What.the-variants as what
 use Rattle.rules.specs.Memory.{Memory, withState, downOf}
-use Rattle.rules.specs.Answer.{Effect, refusalNumber, finished, unless, short, head, isDown, elsewhere}
-use Rattle.rules.specs.Image.{historySize, imageSize, logMost, logCount}
+use Rattle.rules.specs.Answer.{Effect, refusalNumber, finished, unless, short, head, isDown, elsewhere, hereRefusals}
+use Rattle.rules.specs.Image.{historySize, imageSize}
 use Rattle.rules.specs.Sound.{recover, sound}
-use Rattle.rules.specs.Request.{isWrite, plan, served, cutAfter, outOfRange, requestRefusals, cutRefusal, request, requestCut}
+use Rattle.rules.specs.Request.{plan, served, cutAfter, outOfRange, fullHistory, fullLog, askRefusals, requestRefusals, countRefusals, request, requestCut}
 use Rattle.rules.specs.Step.{taken, takenFrom, suitable, updateRefusals, update, plainRefusals, cut, recovery, happens, step}
 use Rattle.laws.proofs.Passed as passed
 use Rattle.farm.specs.Farm.{Farm, stepAt}
@@ -134,42 +134,31 @@ module _ (m : Memory) (ok : sound m ≡ true) where
       (sym (six-row (first (head m wrong ++ rest)) m e z six)
       ∙ rows-other (head m wrong ++ rest) (row-other (short m) TooShort refl, (sound-row, (row-other wrong NotUp refl, h))))
 
-  -- a request's rows behind the head
-  abbrev requestRows : ServerId → PhoneId → Request → Vector → List (Option Refusal) → List (Option Refusal)
-  requestRows j i q v last =
-      given (outOfRange m j i q v) OutOfRange
-      ∷ given (behind (m .state .vector) v) NotYet
-      ∷ given (isWrite q && leb historyMost (m .state .held)) HistoryFull
-      ∷ given (isWrite q && leb logMost (logCount (m .image))) LogFull
-      ∷ last
-
-  request-other : (j : ServerId) (i : PhoneId) (q : Request) (v : Vector) (last : List (Option Refusal)) → Each (λ r. isSix r ≡ false) last → Each (λ r. isSix r ≡ false) (requestRows j i q v last)
+  -- the rows of a request behind the head
+  request-other : (j : ServerId) (i : PhoneId) (q : Request) (v : Vector) (last : List (Option Refusal)) → Each (λ r. isSix r ≡ false) last → Each (λ r. isSix r ≡ false) (askRefusals m j i q v ++ last)
   request-other j i q v last h = (
     row-other (outOfRange m j i q v) OutOfRange refl,
     (
       row-other (behind (m .state .vector) v) NotYet refl,
-      (
-        row-other (isWrite q && leb historyMost (m .state .held)) HistoryFull refl,
-        (row-other (isWrite q && leb logMost (logCount (m .image))) LogFull refl, h),
-      ),
+      (row-other (fullHistory m q) HistoryFull refl, (row-other (fullLog m q) LogFull refl, h)),
     ),
   )
 
-  here-other : (j : ServerId) → Each (λ r. isSix r ≡ false) (given (elsewhere m j) OutOfRange ∷ [])
+  here-other : (j : ServerId) → Each (λ r. isSix r ≡ false) (hereRefusals m j)
   here-other j = (row-other (elsewhere m j) OutOfRange refl, tt)
 
   pub never-six : (j : ServerId) (w : What) (v : Vector) (msg : List ℕ) → (w ≡ what.Update → ⊥) → happens m j w v msg .reply .number ≡ 6 → ⊥
   unfolding request requestCut cut recovery requestRefusals plainRefusals cutAfter
   never-six j (what.Request i q) v msg other =
-      not-six (isDown m) (requestRows j i q v []) (served m i q) (served-number m i q) (request-other j i q v [] tt)
+      not-six (isDown m) (askRefusals m j i q v) (served m i q) (served-number m i q) (request-other j i q v [] tt)
   never-six j (what.RequestCut i q k) v msg other =
-      not-six (isDown m) (requestRows j i q v (cutRefusal m i q k ∷ [])) (cutAfter m i q k) refl
-      (request-other j i q v (cutRefusal m i q k ∷ []) (row-other (not (leb k (length (plan m i q)))) OutOfRange refl, tt))
+      not-six (isDown m) (askRefusals m j i q v ++ countRefusals m i q k) (cutAfter m i q k) refl
+      (request-other j i q v (countRefusals m i q k) (row-other (not (leb k (length (plan m i q)))) OutOfRange refl, tt))
   never-six j what.Cut v msg other =
-      not-six (isDown m) (given (elsewhere m j) OutOfRange ∷ []) (finished (withState (downOf (m .state)) m)) refl (here-other j)
+      not-six (isDown m) (hereRefusals m j) (finished (withState (downOf (m .state)) m)) refl (here-other j)
   never-six j what.Update v msg other = absurd (other refl)
   never-six j what.Recovery v msg other =
-      not-six (m .state .up) (given (elsewhere m j) OutOfRange ∷ []) (finished (recover m)) refl (here-other j)
+      not-six (m .state .up) (hereRefusals m j) (finished (recover m)) refl (here-other j)
 
 pub welcomed : (n : ℕ) (f : Farm) → Reached n f → (j : ServerId) → j .0 < n → Welcome n f j
 unfolding stepAt step

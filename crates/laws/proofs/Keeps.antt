@@ -35,7 +35,7 @@ use Rattle.rules.specs.Memory.{Memory, memory, downOf, writes, blank, withState
 use Rattle.rules.specs.Image.{checkpointCount, logCount, checkpoint, log, imageSize, checkpointAt, logAt, checkpointArea, logArea, historySize, stored}
 use Rattle.rules.specs.Sound.{later, recovered, recoveredState, recoveredHistory, recover, sound, isZero, suits, soundUp, soundDown}
 use Rattle.rules.specs.Answer.{finished, isDown}
-use Rattle.rules.specs.Request.{written, noted, cleared, due, ownPlan, plan, ready, performed, served, cutAfter, request, requestCut, requestRefusals, cutRefusal}
+use Rattle.rules.specs.Request.{written, noted, cleared, due, ownPlan, plan, ready, performed, served, cutAfter, request, requestCut, requestRefusals, cutRefusals}
 use Rattle.rules.specs.Step.{Turn, skipped, appended, refuses, atTurn, vectorAfter, Taken, andThen, taken, takenFrom, updated, update, updateRefusals, plainRefusals, cut, recovery, happens, step}
 use Rattle.rules.specs.Calls.{fresh}
 use Rattle.laws.proofs.Phones.{reads-blank}
@@ -178,7 +178,7 @@ module _ (m : Memory) (e : Event) (v : Vector) (msg : List ℕ) (image : AllBelo
       unless-keeps Sound (first (requestRefusals m j i q v)) m (served m i q) ok
       (λ r. served-sound m j i v q (asked m j i q v r))
   happens-sound j (what.RequestCut i q k) =
-      unless-keeps Sound (first (requestRefusals m j i q v ++ cutRefusal m i q k ∷ [])) m (cutAfter m i q k) ok
+      unless-keeps Sound (first (cutRefusals m j i q k v)) m (cutAfter m i q k) ok
       (λ r. cut-sound m j i v q k (asked-cut m j i q v k r .0))
   happens-sound j what.Cut =
       unless-keeps Sound (first (plainRefusals m (isDown m) j)) m (finished (withState (downOf (m .state)) m)) ok

@@ -24,32 +24,23 @@ use Rattle.rules.specs.declared.state.State.{State}
 use Rattle.rules.specs.Memory.{Memory, withState, downOf, writes}
 use Rattle.rules.specs.Sound.{recover}
 use Rattle.rules.specs.Answer.{Effect, effectOf, verdictReply, statusReply, finished, isDown}
-use Rattle.rules.specs.Request.{noted, cleared, due, ready, performed, served, cutAfter, written, newRecord, requestRefusals, cutRefusal, request, requestCut}
+use Rattle.rules.specs.Request.{noted, cleared, due, ready, performed, served, cutAfter, written, newRecord, requestRefusals, cutRefusals, request, requestCut}
 use Rattle.rules.specs.Step.{takenFrom, updated, updateRefusals, update, plainRefusals, cut, recovery, happens, step}
-use Rattle.rules.specs.Calls.{judge, fresh, noServer, startRefusal, start, status, found, lookUp, filled, message}
+use Rattle.rules.specs.Calls.{judge, fresh, noServer, startRefusal, start, status, found, lookUp, messageFilled, message}
 use Rattle.laws.proofs.Writes.{length-tally}
 use Rattle.laws.proofs.Passed.{Asked, asked, unless-either}
 use Rattle.laws.proofs.Newest.{eight}
-use Rattle.laws.proofs.Reading.{up, noted-is}
-use Rattle.laws.proofs.Unique.{effects-known, verdicts-known, status-known, filled-known}
+use Rattle.laws.proofs.Reading.{up, ready-is}
+use Rattle.laws.proofs.Unique.{effects-known, judged-known, status-known, filled-known}
 
 -- ---- the vector of every effect has eight counts
 abbrev pub Eight : Effect → Type 0
 Eight e = length (e .vector .counts) ≡ servers
 
--- a request's noting and a checkpoint's clearing leave V
-ready-vector : (m : Memory) (i : PhoneId) (q : Request) → ready m i q .vector ≡ m .state .vector
-unfolding ready cleared
-ready-vector m i q = go (due m i q)
-  where
-    go : (b : Bool) → cond b (cleared (noted (m .state) i q)) (noted (m .state) i q) .vector ≡ m .state .vector
-    go true = ap (λ (t : State). t .vector) (noted-is (m .state) i q)
-    go false = ap (λ (t : State). t .vector) (noted-is (m .state) i q)
-
 served-eight : (m : Memory) (j : ServerId) (i : PhoneId) (q : Request) (v : Vector) → Asked m j i q v → Eight (served m i q)
 unfolding served performed ready noted due written newRecord
 served-eight m j i (Read cell) v a =
-    ap (λ (v : Vector). length (v .counts)) (ready-vector m i (Read cell) ∙ up m j i (Read cell) v a .facts .counts)
+    ap (λ (v : Vector). length (v .counts)) (ap (λ (t : State). t .vector) (ready-is m i (Read cell)) ∙ up m j i (Read cell) v a .facts .counts)
     ∙ length-tally (writes m)
 served-eight m j i (Write cell value time) v a =
     eight m (up m j i (Write cell value time) v a) i cell value time (a .phone) (a .cell) (a .room refl)
@@ -61,7 +52,7 @@ module _ (m : Memory) (v : Vector) (msg : List ℕ) where
       unless-either Eight (first (requestRefusals m j i q v)) m (served m i q) (λ k. refl)
       (λ r. served-eight m j i q v (asked m j i q v r))
   happens-eight j (what.RequestCut i q k) =
-      unless-either Eight (first (requestRefusals m j i q v ++ cutRefusal m i q k ∷ [])) m (cutAfter m i q k) (λ k. refl) (λ r. refl)
+      unless-either Eight (first (cutRefusals m j i q k v)) m (cutAfter m i q k) (λ k. refl) (λ r. refl)
   happens-eight j what.Cut =
       unless-either Eight (first (plainRefusals m (isDown m) j)) m (finished (withState (downOf (m .state)) m)) (λ k. refl) (λ r. refl)
   happens-eight j what.Update =
@@ -95,7 +86,7 @@ module _ (a b : Outcome) (h g i j : List ℕ) where
 
 -- ---- a verdict
 pub judge-one : (a b : Verdict) (m : Memory) → verdictReply a ≡ judge m → verdictReply b ≡ judge m → a ≡ b
-judge-one a b m p q = verdicts-known a b (p ∙ sym q)
+judge-one a b m p q = judged-known a b (p ∙ sym q)
 
 -- ---- a status, and a server's own message with each byte of its output
 pub status-one : (a b : Status) (m : Memory) → statusReply a ≡ status m → statusReply b ≡ status m → a ≡ b
@@ -103,8 +94,8 @@ status-one a b m p q = status-known a b (p ∙ sym q)
 
 pub message-one :
     (a b : Message) (o u : List ℕ) (m : Memory) (out : List ℕ)
-    → filled a o ≡ message m out
-    → filled b u ≡ message m out
+    → messageFilled a o ≡ message m out
+    → messageFilled b u ≡ message m out
     → (a ≡ b) × (o ≡ u)
 message-one a b o u m out p q = filled-known a b o u (p ∙ sym q)
 

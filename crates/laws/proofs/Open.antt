@@ -22,6 +22,7 @@ use Rattle.rules.specs.Sound.{recovered, recoveredState, isZero, suits, soundUp
 use Rattle.laws.proofs.Phones.{no-reads}
 use Rattle.laws.proofs.Stores.{Shows, shows-server, shows-n, shows-own}
 use Rattle.laws.proofs.Sound.{Facts, facts, facts-ok, recovered-lacked, woken}
+use Rattle.laws.proofs.Passed.{Head}
 
 -- ---- up
 
@@ -40,6 +41,9 @@ opened m long up e =
       shows = record { long = long; header = x .0; kept = refl; logged = refl };
       facts = facts (m .state) (writes m) (checkpoint (m .image)) (log (m .image)) (x .1);
     }
+
+pub open-up : (m : Memory) → Head m → m .state .up ≡ true → Up m
+open-up m h up = opened m (h .image) up (h .sound)
 
 pub closed :
     (m : Memory) (c l : List Record)

@@ -23,7 +23,7 @@ use Rattle.rules.specs.Writes.{winner}
 use Rattle.rules.specs.Memory.{Memory, withState, downOf, writes}
 use Rattle.rules.specs.Sound.{recover, sound}
 use Rattle.rules.specs.Answer.{Effect, refusalReply, replying, finished, isDown}
-use Rattle.rules.specs.Request.{valueOf, replyTo, served, cutAfter, requestRefusals, cutRefusal, request, requestCut}
+use Rattle.rules.specs.Request.{valueOf, replyTo, served, cutAfter, requestRefusals, cutRefusals, request, requestCut}
 use Rattle.rules.specs.Step.{takenFrom, updated, updateRefusals, update, plainRefusals, cut, recovery, happens, step}
 use Rattle.laws.proofs.Passed.{Head, Asked, Brought, Plain, unless-either, asked, asked-cut, brought-known, plain}
 use Rattle.laws.proofs.Reading.{after}
@@ -49,7 +49,7 @@ step-cases m e v msg P c = go (e .what)
     go (what.Request i q) =
         unless-either P (first (requestRefusals m j i q v)) m (served m i q) (c .refuses) (λ r. c .serves i q (asked m j i q v r))
     go (what.RequestCut i q k) =
-        unless-either P (first (requestRefusals m j i q v ++ cutRefusal m i q k ∷ [])) m (cutAfter m i q k) (c .refuses)
+        unless-either P (first (cutRefusals m j i q k v)) m (cutAfter m i q k) (c .refuses)
         (λ r. c .cutServing i q k (asked-cut m j i q v k r .0))
     go what.Cut =
         unless-either P (first (plainRefusals m (isDown m) j)) m (finished (withState (downOf (m .state)) m)) (c .refuses)

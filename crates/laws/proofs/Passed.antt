@@ -24,9 +24,9 @@ use Rattle.rules.specs.declared.event.Request.{Request}
 use Rattle.rules.specs.Memory.{Memory}
 use Rattle.rules.specs.Image.{historySize, imageSize, logMost, logCount}
 use Rattle.rules.specs.Sound.{sound}
-use Rattle.rules.specs.Answer.{Effect, refusalReply, replying, unless, short, head, isDown, elsewhere}
-use Rattle.rules.specs.Request.{plan, cellOf, isWrite, outOfRange, requestRefusals, cutRefusal}
-use Rattle.rules.specs.Step.{takenFrom, suitable, updateRefusals, plainRefusals}
+use Rattle.rules.specs.Answer.{Effect, refusalReply, replying, unless, short, head, isDown, elsewhere, hereRefusals}
+use Rattle.rules.specs.Request.{plan, cellOf, isWrite, outOfRange, fullHistory, fullLog, fullRefusals, askRefusals, requestRefusals, countRefusals, cutRefusals}
+use Rattle.rules.specs.Step.{takenFrom, suitable, arrivalRefusals, takingRefusals, updateRefusals, plainRefusals}
 
 -- ---- a list of refusals of which none is given
 pub ungiven : {A : Type 0} (b : Bool) (r : A) (rest : List (Option A)) → first (given b r ∷ rest) ≡ none → (b ≡ false) × (first rest ≡ none)
@@ -57,6 +57,12 @@ pub unless-keeps :
     → P (unless r m e .after)
 unless-keeps P r m e h k = unless-either (λ e. P (e .after)) r m e (λ x. h) k
 
+-- no lent buffer is too short
+pub long-enough : (m : Memory) → short m ≡ false → (historySize ≤ length (m .history)) × (imageSize ≤ length (m .image))
+long-enough m e =
+    let n = neither (ltb (length (m .history)) historySize) _ e in
+    (ltb-false (length (m .history)) historySize (n .0), ltb-false (length (m .image)) imageSize (n .1))
+
 -- ---- the head that every call on a server has
 pub record Head (m : Memory) : Type 0 where
   pub history : historySize ≤ length (m .history)
@@ -74,12 +80,8 @@ module _ (m : Memory) (wrong : Bool) (rest : List (Option Refusal)) (e : first (
 
   pub head-known : Head m
   head-known =
-      let s = neither (ltb (length (m .history)) historySize) _ (rows .0) in
-      record {
-        history = ltb-false (length (m .history)) historySize (s .0);
-        image = ltb-false (length (m .image)) imageSize (s .1);
-        sound = not-false (sound m) (rows .1);
-      }
+      let long = long-enough m (rows .0) in
+      record { history = long .0; image = long .1; sound = not-false (sound m) (rows .1) }
 
   pub head-right : wrong ≡ false
   head-right = rows .2
@@ -109,20 +111,17 @@ pub asked :
     → Asked m j i q v
 unfolding requestRefusals
 asked m j i q v e =
-    let full = isWrite q && leb historyMost (m .state .held) in
-    let logFull = isWrite q && leb logMost (logCount (m .image)) in
-    let row3 = given (behind (m .state .vector) v) NotYet ∷ given full HistoryFull ∷ given logFull LogFull ∷ [] in
-    let all = given (outOfRange m j i q v) OutOfRange ∷ row3 in
-    let a = ungiven (outOfRange m j i q v) OutOfRange row3 (head-rest m (isDown m) all e) in
-    let b = ungiven (behind (m .state .vector) v) NotYet (given full HistoryFull ∷ given logFull LogFull ∷ []) (a .1) in
-    let c = ungiven full HistoryFull (given logFull LogFull ∷ []) (b .1) in
-    let d = ungiven logFull LogFull [] (c .1) in
+    let rows = askRefusals m j i q v in
+    let a = ungiven (outOfRange m j i q v) OutOfRange (given (behind (m .state .vector) v) NotYet ∷ fullRefusals m q) (head-rest m (isDown m) rows e) in
+    let b = ungiven (behind (m .state .vector) v) NotYet (fullRefusals m q) (a .1) in
+    let c = ungiven (fullHistory m q) HistoryFull (given (fullLog m q) LogFull ∷ []) (b .1) in
+    let d = ungiven (fullLog m q) LogFull [] (c .1) in
     let o3 = neither _ (not (zeroFrom (m .state .n) v)) (a .0) in
     let o2 = neither _ (not (ltb (cellOf q) cells)) (o3 .0) in
     let o1 = neither (elsewhere m j) (not (ltb (i .0) phones)) (o2 .0) in
     record {
-      head = head-known m (isDown m) all e;
-      up = not-false (m .state .up) (head-right m (isDown m) all e);
+      head = head-known m (isDown m) rows e;
+      up = not-false (m .state .up) (head-right m (isDown m) rows e);
       here = eqb-true (j .0) (m .state .own .0) (not-false _ (o1 .0));
       phone = ltb-true (i .0) phones (not-false _ (o1 .1));
       cell = ltb-true (cellOf q) cells (not-false _ (o2 .1));
@@ -132,17 +131,62 @@ asked m j i q v e =
       logRoom = room-of (isWrite q) logMost (logCount (m .image)) (d .0);
     }
 
+-- what serving it, or cutting it, stands on, wherever it came from and whatever it carried
+pub record Admitted (m : Memory) (i : PhoneId) (q : Request) : Type 0 where
+  pub head : Head m
+  pub up : m .state .up ≡ true
+  pub phone : i .0 < phones
+  pub room : isWrite q ≡ true → m .state .held < historyMost
+  pub logRoom : isWrite q ≡ true → logCount (m .image) < logMost
+
+pub admitted :
+    (m : Memory) (j : ServerId) (i : PhoneId) (q : Request) (v : Vector)
+    → first (requestRefusals m j i q v) ≡ none
+    → Admitted m i q
+admitted m j i q v e =
+    let a = asked m j i q v e in
+    record { head = a .head; up = a .up; phone = a .phone; room = a .room; logRoom = a .logRoom }
+
 -- cut: the count is at most the number of stores
 pub asked-cut :
     (m : Memory) (j : ServerId) (i : PhoneId) (q : Request) (v : Vector) (k : ℕ)
-    → first (requestRefusals m j i q v ++ cutRefusal m i q k ∷ []) ≡ none
+    → first (cutRefusals m j i q k v) ≡ none
     → Asked m j i q v × (k ≤ length (plan m i q))
 asked-cut m j i q v k e =
-    let x = none-append (requestRefusals m j i q v) (cutRefusal m i q k ∷ []) e in
+    let x = none-append (requestRefusals m j i q v) (countRefusals m i q k) e in
     let y = ungiven (not (leb k (length (plan m i q)))) OutOfRange [] (x .1) in
     (asked m j i q v (x .0), leb-true k (length (plan m i q)) (not-false _ (y .0)))
 
 -- ---- an update
+
+-- before its writes are looked at
+pub record Arrived (m : Memory) (j : ServerId) (msg : List ℕ) : Type 0 where
+  pub head : Head m
+  pub up : m .state .up ≡ true
+  pub here : j .0 ≡ m .state .own .0
+  pub right : messageOk msg ≡ true
+  pub sameN : messageN msg ≡ m .state .n
+  pub other : messageSender msg .0 ≡ m .state .own .0 → ⊥
+
+pub arrived :
+    (m : Memory) (j : ServerId) (msg : List ℕ)
+    → first (arrivalRefusals m j msg) ≡ none
+    → Arrived m j msg
+arrived m j msg e =
+    let rows = hereRefusals m j ++ given (not (suitable m msg)) Unsound ∷ [] in
+    let a = ungiven (elsewhere m j) OutOfRange (given (not (suitable m msg)) Unsound ∷ []) (head-rest m (isDown m) rows e) in
+    let b = ungiven (not (suitable m msg)) Unsound [] (a .1) in
+    let s = both (messageOk msg && eqb (messageN msg) (m .state .n)) _ (not-false _ (b .0)) in
+    let t = both (messageOk msg) _ (s .0) in
+    record {
+      head = head-known m (isDown m) rows e;
+      up = not-false (m .state .up) (head-right m (isDown m) rows e);
+      here = eqb-true (j .0) (m .state .own .0) (not-false _ (a .0));
+      right = t .0;
+      sameN = eqb-true (messageN msg) (m .state .n) (t .1);
+      other = eqb-false (messageSender msg .0) (m .state .own .0) (not-true _ (s .1));
+    }
+
 pub record Brought (m : Memory) (j : ServerId) (msg : List ℕ) : Type 0 where
   pub head : Head m
   pub up : m .state .up ≡ true
@@ -159,24 +203,20 @@ pub brought-known :
     → Brought m j msg
 unfolding updateRefusals
 brought-known m j msg e =
+    let x = none-append (arrivalRefusals m j msg) (takingRefusals m (takenFrom m msg)) e in
+    let a = arrived m j msg (x .0) in
     let full = not (leb (m .state .held + length (takenFrom m msg .new)) historyMost) in
-    let row7 = takenFrom m msg .refusal ∷ given full HistoryFull ∷ [] in
-    let all = given (elsewhere m j) OutOfRange ∷ given (not (suitable m msg)) Unsound ∷ row7 in
-    let a = ungiven (elsewhere m j) OutOfRange (given (not (suitable m msg)) Unsound ∷ row7) (head-rest m (isDown m) all e) in
-    let b = ungiven (not (suitable m msg)) Unsound row7 (a .1) in
-    let c = none-first (takenFrom m msg .refusal) (given full HistoryFull ∷ []) (b .1) in
-    let d = ungiven full HistoryFull [] (c .1) in
-    let s = both (messageOk msg && eqb (messageN msg) (m .state .n)) _ (not-false _ (b .0)) in
-    let t = both (messageOk msg) _ (s .0) in
+    let b = none-first (takenFrom m msg .refusal) (given full HistoryFull ∷ []) (x .1) in
+    let c = ungiven full HistoryFull [] (b .1) in
     record {
-      head = head-known m (isDown m) all e;
-      up = not-false (m .state .up) (head-right m (isDown m) all e);
-      here = eqb-true (j .0) (m .state .own .0) (not-false _ (a .0));
-      right = t .0;
-      sameN = eqb-true (messageN msg) (m .state .n) (t .1);
-      other = eqb-false (messageSender msg .0) (m .state .own .0) (not-true _ (s .1));
-      fits = c .0;
-      room = leb-true (m .state .held + length (takenFrom m msg .new)) historyMost (not-false _ (d .0));
+      head = a .head;
+      up = a .up;
+      here = a .here;
+      right = a .right;
+      sameN = a .sameN;
+      other = a .other;
+      fits = b .0;
+      room = leb-true (m .state .held + length (takenFrom m msg .new)) historyMost (not-false _ (c .0));
     }
 
 -- ---- a cut or a recovery
@@ -188,10 +228,9 @@ pub record Plain (m : Memory) (wrong : Bool) (j : ServerId) : Type 0 where
 pub plain : (m : Memory) (wrong : Bool) (j : ServerId) → first (plainRefusals m wrong j) ≡ none → Plain m wrong j
 unfolding plainRefusals
 plain m wrong j e =
-    let all = given (elsewhere m j) OutOfRange ∷ [] in
-    let a = ungiven (elsewhere m j) OutOfRange [] (head-rest m wrong all e) in
+    let a = ungiven (elsewhere m j) OutOfRange [] (head-rest m wrong (hereRefusals m j) e) in
     record {
-      head = head-known m wrong all e;
-      right = head-right m wrong all e;
+      head = head-known m wrong (hereRefusals m j) e;
+      right = head-right m wrong (hereRefusals m j) e;
       here = eqb-true (j .0) (m .state .own .0) (not-false _ (a .0));
     }

@@ -23,7 +23,7 @@ use Rattle.rules.specs.declared.state.State.{State}
 use Rattle.rules.specs.Memory.{withPhone, Memory, memory, inCR, rwWith, downOf, noting, writes}
 use Rattle.rules.specs.Image.{checkpointCount, checkpoint, log, Store, stored, checkpointPlan}
 use Rattle.rules.specs.Sound.{sound}
-use Rattle.rules.specs.Request.{noted, cleared}
+use Rattle.rules.specs.Request.{noted, cleared, due, ready}
 use Rattle.laws.proofs.Phones.{reads-cleared, reads-noted}
 use Rattle.laws.proofs.Stores.{Shows, shows-counts, length-checkpointPlan, checkpoint-cut, checkpoint-counted, checkpoint-all}
 use Rattle.laws.proofs.Sound.{Facts, kept-few, noted-facts, kept-all, log-empty}
@@ -42,6 +42,20 @@ noted-is s i (Read cell) = go (inCR s i)
     go : (t : Bool) → Renoted s (cond t s (noting (withPhone (s .cr) i) (rwWith s i (s .nwrites)) (s .nwrites) s))
     go true = refl
     go false = refl
+
+-- and what it goes on from differs in CR, RW and nWrites at most
+pub ready-is : (m : Memory) (i : PhoneId) (q : Request) → let t = ready m i q in t ≡ noting (t .cr) (t .rw) (t .nwrites) (m .state)
+unfolding ready cleared
+ready-is m i q = go (due m i q)
+  where
+    t : State
+    t = noted (m .state) i q
+
+    go : (b : Bool) → let r = cond b (cleared t) t in r ≡ noting (r .cr) (r .rw) (r .nwrites) (m .state)
+    go true = ap cleared (noted-is (m .state) i q)
+    go false =
+        let e = noted-is (m .state) i q in
+        e ∙ ap (λ (k : ℕ). noting (t .cr) (t .rw) k (m .state)) (sym (ap (λ (x : State). x .nwrites) e))
 
 module _ (m : Memory) (j : ServerId) (i : PhoneId) (q : Request) (v : Vector) (a : Asked m j i q v) where
   pub up : Up m

@@ -21,7 +21,7 @@ use Rattle.rules.specs.Memory.{Memory, withState, downOf}
 use Rattle.rules.specs.Image.{historySize, checkpointCount, logCount, checkpointPlan}
 use Rattle.rules.specs.Sound.{recoveredHistory, recover}
 use Rattle.rules.specs.Answer.{finished, isDown}
-use Rattle.rules.specs.Request.{newRecord, written, due, ownPlan, plan, performed, served, cutAfter, requestRefusals, cutRefusal, request, requestCut}
+use Rattle.rules.specs.Request.{newRecord, written, due, ownPlan, plan, performed, served, cutAfter, requestRefusals, cutRefusals, request, requestCut}
 use Rattle.rules.specs.Step.{takenFrom, updated, updateRefusals, update, plainRefusals, cut, recovery, happens, step}
 use Rattle.laws.proofs.Octets.{below-append, below-sets, below-zeros, below-encode, below-recordBytes, each-take, IsByte, below-stored, write-bytes, checkpoint-bytes}
 use Rattle.laws.proofs.Passed.{Asked, Brought, unless-keeps, asked, asked-cut, brought-known}
@@ -104,7 +104,7 @@ module _ (m : Memory) (b : Bytes m) (v : Vector) (msg : List ℕ) (bytes : AllBe
       unless-keeps Bytes (first (requestRefusals m j i q v)) m (served m i q) b
       (λ r. served-bytes m b j i v q (asked m j i q v r))
   happens-bytes j (what.RequestCut i q k) =
-      unless-keeps Bytes (first (requestRefusals m j i q v ++ cutRefusal m i q k ∷ [])) m (cutAfter m i q k) b
+      unless-keeps Bytes (first (cutRefusals m j i q k v)) m (cutAfter m i q k) b
       (λ r. cut-bytes m b j i v q k (asked-cut m j i q v k r .0))
   happens-bytes j what.Cut =
       unless-keeps Bytes (first (plainRefusals m (isDown m) j)) m (finished (withState (downOf (m .state)) m)) b

@@ -3,6 +3,7 @@
 use Prim.Native.Nat.{ℕ, zero, suc, _-_, _<_}
 use mathlib.Core.Bool.{cond}
 use mathlib.Core.List.{List, [], _∷_}
+use mathlib.Core.Option.{Option, none, some}
 use mathlib.Core.Path.{_≡_, refl, ap, sym, _∙_}
 use native.Mathlib.Omega.{arith}
 use lib.Dec.{eqb}
@@ -21,17 +22,19 @@ use Rattle.rules.specs.declared.answer.Verdict.{Verdict}
 use Rattle.rules.specs.declared.answer.Verdict.the-variants as verdict
 use Rattle.rules.specs.declared.answer.Status.{Status}
 use Rattle.rules.specs.declared.answer.Status.the-variants as status
-use Rattle.rules.specs.Answer.{Effect, refusalReply, answerReply, effectOf, verdictReply, statusReply, messageReply}
-use Rattle.rules.specs.Calls.{filled}
+use Rattle.rules.specs.Answer.{Effect, refusalNumber, refusalReply, answerReply, effectOf, verdictRefusal, verdictReply, statusReply, messageReply}
+use Rattle.rules.specs.Calls.{messageFilled}
 
 -- ---- the way back from a reply: from its values if its number is 0, from its number otherwise
 
+-- the refusal of a list that has this number
+abbrev numbered : ℕ → List Refusal → Refusal
+numbered k [] = OutOfRange
+numbered k (r ∷ rs) = cond (eqb (refusalNumber r) k) r (numbered k rs)
+
 abbrev refusalOf : ℕ → Refusal
 refusalOf k =
-    getD
-    (OutOfRange ∷ NotUp ∷ NotYet ∷ HistoryFull ∷ LogFull ∷ Unsound ∷ Gap ∷ OwnAhead ∷ TooShort ∷ [])
-    (k - 1)
-    OutOfRange
+    numbered k (OutOfRange ∷ NotUp ∷ NotYet ∷ HistoryFull ∷ LogFull ∷ Unsound ∷ Gap ∷ OwnAhead ∷ TooShort ∷ [])
 
 module _ {A : Type 0} (values : List ℕ → A) (refusal : Refusal → A) where
   abbrev pub back : Reply → A
@@ -94,12 +97,23 @@ effects-known a b h g i j l e =
 
 -- ---- a verdict
 
-verdict-back : (a : Verdict) → back (λ l. verdict.Sound) verdict.Refused (verdictReply a) ≡ a
-verdict-back verdict.Sound = refl
-verdict-back (verdict.Refused r) = refused-back (λ l. verdict.Sound) verdict.Refused r
+abbrev verdictOf : Option Refusal → Verdict
+verdictOf none = verdict.Passed
+verdictOf (some r) = verdict.Refused r
 
-pub verdicts-known : (a b : Verdict) → verdictReply a ≡ verdictReply b → a ≡ b
-verdicts-known = known-by verdictReply (back (λ l. verdict.Sound) verdict.Refused) verdict-back
+verdict-back : (a : Verdict) → verdictOf (verdictRefusal a) ≡ a
+verdict-back verdict.Passed = refl
+verdict-back (verdict.Refused r) = refl
+
+pub verdicts-known : {r : Option Refusal} (a b : Verdict) → verdictRefusal a ≡ r → verdictRefusal b ≡ r → a ≡ b
+verdicts-known a b p q = known-by verdictRefusal verdictOf verdict-back a b (p ∙ sym q)
+
+replied-back : (a : Verdict) → back (λ l. verdict.Passed) verdict.Refused (verdictReply a) ≡ a
+replied-back verdict.Passed = refl
+replied-back (verdict.Refused r) = refused-back (λ l. verdict.Passed) verdict.Refused r
+
+pub judged-known : (a b : Verdict) → verdictReply a ≡ verdictReply b → a ≡ b
+judged-known = known-by verdictReply (back (λ l. verdict.Passed) verdict.Refused) replied-back
 
 -- ---- a status: nobody has one value, phones have two
 
@@ -128,6 +142,6 @@ message-back (message.Refused r) = refused-back bytesOf message.Refused r
 pub messages-known : (a b : Message) → messageReply a ≡ messageReply b → a ≡ b
 messages-known = known-by messageReply (back bytesOf message.Refused) message-back
 
-pub filled-known : (a b : Message) (o u : List ℕ) → filled a o ≡ filled b u → (a ≡ b) × (o ≡ u)
+pub filled-known : (a b : Message) (o u : List ℕ) → messageFilled a o ≡ messageFilled b u → (a ≡ b) × (o ≡ u)
 filled-known a b o u e =
     (messages-known a b (ap (λ (f : Filled). f .reply) e), ap (λ (f : Filled). f .output) e)

@@ -9,7 +9,7 @@ use native.Mathlib.Omega.{arith}
 use lib.Dec.{eqb}
 use lib.ListN.{length, getD, drop, length-append}
 use Rattle.notes.specs.Reply.{Reply, done, refused, Filled, orElse, first}
-use Rattle.notes.specs.Message.{refusalNumber, headerSaid, headerValues, messageOk, checkedReply, check, writtenReply, filled, fillUnless}
+use Rattle.notes.specs.Message.{refusalNumber, headerSaid, headerValues, messageOk, checkedReply, check, writerReply, filled, fillUnless}
 use Rattle.notes.specs.declared.message.Header.{Header}
 use Rattle.notes.specs.declared.message.Refusal.{Refusal}
 use Rattle.notes.specs.declared.message.Refusal.the-variants.{OutOfRange, Malformed, TooShort}
@@ -27,6 +27,17 @@ pub first-append : {A : Type 0} (a b : List (Option A)) → first (a ++ b) ≡ o
 first-append [] b = refl
 first-append (none ∷ a) b = first-append a b
 first-append (some x ∷ a) b = refl
+
+pub first-one : {A : Type 0} (x : Option A) → first (x ∷ []) ≡ x
+first-one none = refl
+first-one (some k) = refl
+
+-- a refusal of the one stays the first; where it has none the other decides
+pub first-stays : {A : Type 0} (a b : List (Option A)) (k : A) → first a ≡ some k → first (a ++ b) ≡ some k
+first-stays a b k e = first-append a b ∙ ap (λ x. orElse x (first b)) e
+
+pub first-goes-on : {A : Type 0} (a b : List (Option A)) → first a ≡ none → first (a ++ b) ≡ first b
+first-goes-on a b e = first-append a b ∙ ap (λ x. orElse x (first b)) e
 
 abbrev refusalOf : ℕ → Refusal
 refusalOf k = cond (eqb k 1) OutOfRange (cond (eqb k 6) Malformed TooShort)
@@ -49,14 +60,14 @@ checked-known = known-by checkedReply checkedOf checked-back
 abbrev writtenOf : Reply → Written
 writtenOf r = cond (eqb (r .number) 0) (written.Bytes (getD (r .values) 0 0)) (written.Refused (refusalOf (r .number)))
 
-written-back : (a : Written) → writtenOf (writtenReply a) ≡ a
+written-back : (a : Written) → writtenOf (writerReply a) ≡ a
 written-back (written.Bytes k) = refl
 written-back (written.Refused OutOfRange) = refl
 written-back (written.Refused Malformed) = refl
 written-back (written.Refused TooShort) = refl
 
-pub written-known : (a b : Written) → writtenReply a ≡ writtenReply b → a ≡ b
-written-known = known-by writtenReply writtenOf written-back
+pub written-known : (a b : Written) → writerReply a ≡ writerReply b → a ≡ b
+written-known = known-by writerReply writtenOf written-back
 
 -- ---- what is known of a message by its check's answer
 found : (m : List ℕ) (a : Checked) → checkedReply a ≡ check m → a ≡ cond (messageOk m) (checked.Update (headerSaid m)) (checked.Refused Malformed)

@@ -38,6 +38,10 @@ module _ {A : Type 0} where
       go (x ∷ z) (y ∷ o) zero h k = refl
       go (x ∷ z) (y ∷ o) (suc i) h k = ap (λ (l : List A). x ∷ l) (go z o i (omega arith) (omega arith))
 
+  -- and all of it
+  pub copied-all : (z o : List A) (i : ℕ) → length z ≤ i → length o ≤ i → take i z ++ drop i o ≡ z
+  copied-all z o i h k = rw (take-all i z h, drop-of-length-le o {i = i} k, append-nil)
+
   -- stores, and further stores behind them
   pub sets-append : (l a b : List A) (i : ℕ) → sets l i (a ++ b) ≡ sets (sets l i a) (i + length a) b
   sets-append l [] b i = rw add-zero
@@ -47,6 +51,10 @@ module _ {A : Type 0} where
   -- stores at the front
   pub sets-front : (a l : List A) (n : ℕ) → length a ≡ n → n ≤ length l → sets l 0 a ≡ a ++ drop n l
   sets-front a l n e h = sets-eq a l 0 (omega arith) ∙ rw (zero-add, e)
+
+  -- what stands from a place on, as `&l[k..]` has it
+  pub rest : (k : ℕ) (l : List A) → take (length l - k) (drop k l) ≡ drop k l
+  rest k l = take-all (length l - k) (drop k l) (rw length-drop (omega arith))
 
   -- a part and what follows it
   pub part-join : (w i : ℕ) (b : List A) → take w (drop i b) ++ drop (i + w) b ≡ drop i b

@@ -15,7 +15,8 @@ use Rattle.notes.specs.Index.{servers, serverOk}
 use Rattle.notes.specs.Bytes.{field, toBytes}
 use Rattle.notes.specs.Reply.{done, refused}
 use Rattle.notes.specs.Record.{recordSize, wellFormed, records, recordBytes}
-use Rattle.notes.specs.Message.{headerSize, countField, offsetField, totalField, historyMost, messageSize, headerOf, messageOf, recordsIn, recordsOk, messageN, messageSender, body, brought, messageOk, check, whole, writeRefusal, write, headerOk}
+use Rattle.notes.specs.Message.{headerSize, countField, offsetField, totalField, historyMost, messageSize, headerOf, messageOf, recordsIn, recordsOk, messageN, messageSender, body, brought, messageOk, check, whole, writeRefusal, write}
+use Rattle.notes.specs.Forms.{headerOk}
 use Rattle.notes.specs.declared.index.ServerId.{ServerId}
 use Rattle.notes.specs.declared.record.Record.{Record}
 use Rattle.notes.proofs.Lists.{both, same-refl, same-true, parts-join, sets-append, sets-front}
@@ -218,10 +219,6 @@ module _ (m : List ℕ) (h : AllBelow 256 m) where
   unfolding check
   check-passed e w =
       rw (message-ok m h, e, n-at m, w, ap (λ (s : ServerId). s .0) (sender-at m), length-records, length-drop)
-
--- what stands behind the header, as `&m[8..]` has it
-pub rest-of : (m : List ℕ) → take (length m - headerSize) (drop headerSize m) ≡ body m
-rest-of m = take-all (length m - headerSize) (drop headerSize m) (rw length-drop (omega arith))
 
 -- ---- a message stored piece by piece
 pub header-stored :

@@ -2,13 +2,14 @@
 -- Assumes nothing.
 use Prim.Native.Nat.{ℕ, zero, suc, _+_, _*_, _/_, _%_, _^_, _<_, _≤_}
 use mathlib.Core.List.{List, [], _∷_, _++_}
-use mathlib.Core.Path.{_≡_, refl, ap}
-use native.Mathlib.Nat.{mul-add-mod-self-left}
+use mathlib.Core.Path.{_≡_, refl, ap, sym, _∙_}
+use native.Mathlib.Nat.{zero-add, add-zero, suc-add, mul-assoc, pow-zero, pow-succ', div-one, mod-lt, mod-eq-of-lt, div-add-mod, mul-add-mod-self-left, div-div-eq-div-mul}
 use native.Mathlib.Numerals.{add-one}
 use native.Mathlib.Omega.{arith}
 use lib.ListN.{length, getD, take, drop, length-take, length-drop}
-use lib.Seq.{getD-drop, take-nil, drop-nil, drop-cons}
+use lib.Seq.{sets, getD-drop, take-nil, drop-nil, drop-cons}
 use Rattle.notes.specs.Bytes.{fromBytes, toBytes}
+use Rattle.notes.proofs.Lists.{sets-append}
 
 -- each number of a list is below n, and so is the zero past its end
 abbrev pub AllBelow : ℕ → List ℕ → Type 0
@@ -76,22 +77,55 @@ from-one i b = omega (arith, from-cons 0 i b)
 pub from-two : (i : ℕ) (b : List ℕ) → fromBytes (take 2 (drop i b)) ≡ getD b i 0 + 256 * getD b (i + 1) 0
 from-two i b = omega (arith, from-cons 1 i b, from-one (i + 1) b)
 
-pub from-four :
-    (i : ℕ) (b : List ℕ)
-    → fromBytes (take 4 (drop i b)) ≡ fromBytes (take 2 (drop i b)) + 65536 * fromBytes (take 2 (drop (i + 2) b))
-from-four i b =
-    let e : i + 1 + 1 ≡ i + 2 = omega arith in
-    omega (arith, from-cons 3 i b, rw e at (from-cons 2 (i + 1) b), from-cons 1 i b, from-one (i + 1) b)
+-- ---- a number's lower bytes, and its upper ones
+pub from-split :
+    (a b i : ℕ) (l : List ℕ)
+    → fromBytes (take (a + b) (drop i l)) ≡ fromBytes (take a (drop i l)) + 256 ^ a * fromBytes (take b (drop (i + a) l))
+unfolding fromBytes
+from-split zero b i l = rw (zero-add, add-zero, pow-zero) (omega arith)
+from-split (suc a) b i l =
+    let e : i + suc a ≡ i + 1 + a = omega arith in
+    rw (suc-add, from-cons (a + b) i l, from-split a b (i + 1) l, from-cons a i l, pow-succ', e)
+    (omega (arith, mul-assoc 256 (256 ^ a) (fromBytes (take b (drop (i + 1 + a) l)))))
 
--- four bytes are two and two
-pub to-four : (n : ℕ) → toBytes 4 n ≡ toBytes 2 (n % 65536) ++ toBytes 2 (n / 65536)
+-- what is left of n over multiples of 256 m: its lowest byte, and the bytes above it
+module _ (m n : ℕ) (some : 0 < m) where
+  parts : 256 * (m * (n / (256 * m))) + n % (256 * m) ≡ n
+  parts = omega (arith, div-add-mod n (256 * m), mul-assoc 256 m (n / (256 * m)))
+
+  lowest : n % (256 * m) % 256 ≡ n % 256
+  lowest = sym (mul-add-mod-self-left 256 (m * (n / (256 * m))) (n % (256 * m))) ∙ ap (λ (k : ℕ). k % 256) parts
+
+  above : n % (256 * m) / 256 ≡ n / 256 % m
+  above =
+      let e : n / 256 ≡ m * (n / (256 * m)) + n % (256 * m) / 256 = omega (arith, parts) in
+      let s : n % (256 * m) / 256 < m = omega (arith, mod-lt n {m = 256 * m} (omega arith)) in
+      sym (rw (e, mul-add-mod-self-left) (mod-eq-of-lt s))
+
+some-power : (a : ℕ) → 0 < 256 ^ a
+some-power zero = omega arith
+some-power (suc a) = rw pow-succ' (omega (arith, some-power a))
+
+pub to-split : (a b n : ℕ) → toBytes (a + b) n ≡ toBytes a (n % 256 ^ a) ++ toBytes b (n / 256 ^ a)
 unfolding toBytes
-to-four n =
-    let a : n % 65536 % 256 ≡ n % 256 = omega arith in
-    let e : n / 256 ≡ 256 * (n / 65536) + n % 65536 / 256 = omega arith in
-    let b : n % 65536 / 256 % 256 ≡ n / 256 % 256 = rw (e, mul-add-mod-self-left) in
-    let c : n / 256 / 256 ≡ n / 65536 = omega arith in
-    rw (a, b, c)
+to-split zero b n = rw (zero-add, div-one)
+to-split (suc a) b n =
+    rw (
+      suc-add,
+      pow-succ',
+      lowest (256 ^ a) n (some-power a),
+      above (256 ^ a) n (some-power a),
+      ← div-div-eq-div-mul n 256 (256 ^ a),
+      to-split a b (n / 256),
+    )
+
+-- the lower bytes stored, then the upper ones behind them
+pub split-stored :
+    (a b : ℕ) (l : List ℕ) (i n : ℕ)
+    → sets (sets l i (toBytes a (n % 256 ^ a))) (i + a) (toBytes b (n / 256 ^ a)) ≡ sets l i (toBytes (a + b) n)
+split-stored a b l i n =
+    let lower = toBytes a (n % 256 ^ a) in
+    rw (to-split a b n, sets-append l lower (toBytes b (n / 256 ^ a)) i, length-toBytes a (n % 256 ^ a)) refl
 
 -- ---- the bytes of the number that stands at a place
 pub part-back :

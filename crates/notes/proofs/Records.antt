@@ -14,12 +14,12 @@ use Rattle.notes.specs.Index.{servers, phones}
 use Rattle.notes.specs.Bytes.{field, fromBytes, toBytes, pieces}
 use Rattle.notes.specs.Vector.{behind, vectorBytes}
 use Rattle.notes.specs.Record.{recordSize, cells, inRange, wellFormed, stampAt, number, originField, phoneField, cellField, decode, encode, records, recordBytes}
-use Rattle.notes.specs.Message.{limitsOf}
+use Rattle.notes.specs.Forms.{limitsOf}
 use Rattle.notes.specs.declared.record.Record.{Record}
 use Rattle.notes.proofs.Lists.{both, every-more, every-fails, parts-join}
-use Rattle.notes.proofs.Numbers.{AllBelow, below-take, below-drop, from-below, one-byte, from-to, from-two, from-four, from-one, from-agree, part-back, byte-join}
+use Rattle.notes.proofs.Numbers.{AllBelow, below-take, below-drop, from-below, one-byte, from-to, from-two, from-split, from-one, from-agree, part-back, byte-join}
 use Rattle.notes.proofs.Pieces.{Each, each-also, length-pieces, piece-at, pieces-join, pieces-split, length-flatMap}
-use Rattle.notes.proofs.Vectors.{vector-bytes, vector-from, length-vectorBytes, length-vectorFrom, counts-below, count-at, vector-agree, zeros-at, stamp-limits}
+use Rattle.notes.proofs.Vectors.{vector-bytes, vector-from, length-vectorBytes, length-vectorFrom, counts-below, count-from, vector-agree, zeros-at, stamp-limits}
 
 -- ---- a record and its bytes
 
@@ -129,7 +129,7 @@ phone-test o p c ho hp = go (ltb p phones) refl
 
 module _ (b : List ℕ) (h : AllBelow 256 b) where
   head-is : fromBytes (take 4 (drop 0 b)) ≡ field originField b + 256 * field phoneField b + 65536 * field cellField b
-  head-is = omega (arith, from-four 0 b, from-two 0 b, from-one 0 b, from-one 1 b)
+  head-is = omega (arith, from-split 2 2 0 b, from-two 0 b, from-one 0 b, from-one 1 b)
 
   pub origin-out : (n : ℕ) → n ≤ getD b 0 0 → inRange n (decode b) ≡ false
   unfolding inRange decode
@@ -161,7 +161,7 @@ module _ (b : List ℕ) (h : AllBelow 256 b) where
   -- the number, as it stands in the bytes
   pub number-at : getD b 0 0 < servers → number (decode b) ≡ fromBytes (take 2 (drop (stampAt + 2 * getD b 0 0) b))
   unfolding decode
-  number-at k = rw (from-one 0 b, count-at (drop stampAt b) (getD b 0 0) k, drop-drop)
+  number-at k = rw (from-one 0 b, count-from stampAt b (getD b 0 0) k)
 
 -- ---- well formed, test by test
 module _ (n : ℕ) (r : Record) where

@@ -16,6 +16,8 @@ use Rattle.notes.specs.declared.reader.Item.{Item}
 use Rattle.notes.specs.declared.reader.Reader.{Reader}
 use Rattle.notes.proofs.Answers.{checked-known, written-known}
 use Rattle.notes.proofs.index.ServerId.is_one_of.Reads as is-one-of
+use Rattle.notes.proofs.number.wide32.Reads as wide32
+use Rattle.notes.proofs.number.past.Reads as past
 use Rattle.notes.proofs.vector.Vector.zero.Reads as zero
 use Rattle.notes.proofs.vector.Vector.at.Reads as at
 use Rattle.notes.proofs.vector.Vector.raised.Reads as raised
@@ -65,6 +67,12 @@ equal p q = p ∙ sym q
 pub is-one-of-one : One is-one-of.Post (λ k r s. r)
 is-one-of-one k a x y s t p q = equal p q
 
+pub wide32-one : One wide32.Post (λ k r s. r)
+wide32-one k a x y s t p q = equal (p .0) (q .0)
+
+pub past-one : One past.Post (λ k r s. r)
+past-one k a x y s t p q = equal (p .0) (q .0)
+
 pub zero-one : One zero.Post (λ k r s. r)
 zero-one k a x y s t p q = equal p q
 
@@ -101,8 +109,8 @@ well-formed-one k a x y s t p q = equal p q
 pub beats-one : One beats.Post (λ k r s. r)
 beats-one k a x y s t p q = equal p q
 
-pub new-one : One new.Post (λ k r s. r)
-new-one k a x y s t p q = equal p q
+pub session-new-one : One new.Post (λ k r s. r)
+session-new-one k a x y s t p q = equal p q
 
 pub read-carries-one : One read-carries.Post (λ k r s. r)
 read-carries-one k a x y s t p q = equal p q
@@ -179,8 +187,8 @@ abbrev take-reads : Reading take.ended (λ k a r s w. take.clauses (w .𝓤) (w 
 take-reads k a r s = all-models _ (λ w. r-last _) (λ w. refl) (λ w. refl) (λ w. refl)
 
 -- the reader, and the code written
-pub reader-one : One {O = Reader × ℕ} (λ k a r s. AllOf (reader-reads k a r s .owes)) (λ k r s. (r, now (s .1 .0)))
-reader-one k a x y s t p q = λ i. (record { message = equal (p .0) (q .0) i; at = equal (p .1) (q .1) i }, equal (p .2) (q .2) i)
+pub reader-new-one : One {O = Reader × ℕ} (λ k a r s. AllOf (reader-reads k a r s .owes)) (λ k r s. (r, now (s .1 .0)))
+reader-new-one k a x y s t p q = λ i. (record { message = equal (p .0) (q .0) i; at = equal (p .1) (q .1) i }, equal (p .2) (q .2) i)
 
 pub next-one : One (λ k a r s. AllOf (next-reads k a r s .owes)) (λ k r s. r)
 next-one k a x y s t p q = equal p q

@@ -7,14 +7,14 @@ use mathlib.Core.Path.{_≡_, refl, ap, sym, _∙_}
 use native.Mathlib.Omega.{arith}
 use borrow.Author.Tests.{ltb-true, ltb-false, lt-ltb, le-ltb, lt-leb, le-leb, eq-eqb, ne-eqb}
 use lib.Dec.{ltb, leb, eqb, leb·suc-suc}
-use lib.ListN.{length, getD, take, drop, set, replicate, List·getD-eq-default, List·getD-map, length-map, drop-of-length-le, length-take, length-drop, length-append, length-replicate}
+use lib.ListN.{length, getD, take, drop, set, replicate, List·getD-eq-default, List·getD-map, length-map, length-take, length-drop, length-append, length-replicate}
 use lib.Seq.{drop-nil, getD-set-same, getD-set-other, getD-take, getD-drop, drop-drop, take-all, length-take-le, ext-getD, sets}
 use Rattle.notes.specs.Lists.{every, any}
 use Rattle.notes.specs.Index.{servers}
 use Rattle.notes.specs.Bytes.{fromBytes, toBytes, pieces}
-use Rattle.notes.specs.Vector.{vector, at, raised, maximum, sum, behind, zeroFrom, countSize, vectorFrom, vectorBytes}
+use Rattle.notes.specs.Vector.{vector, at, raised, maximum, sum, behind, zeroFrom, countSize, countsIn, vectorFrom, vectorBytes}
 use Rattle.notes.specs.Record.{numberMost, stampOk}
-use Rattle.notes.specs.Message.{limitAt, limitsOf}
+use Rattle.notes.specs.Forms.{limitAt, limitsOf}
 use Rattle.notes.specs.declared.index.ServerId.{ServerId}
 use Rattle.notes.specs.declared.vector.Vector.{Vector}
 use Rattle.notes.proofs.Lists.{neither, take-more, copied-more, every-more, any-more, sets-append, flatMap-append, length-zipWith, getD-zipWith}
@@ -89,25 +89,31 @@ pub length-vectorBytes : (v : Vector) → length (v .counts) ≡ servers → len
 unfolding vectorBytes
 length-vectorBytes v l = rw (length-flatMap countSize (toBytes countSize) (v .counts) (each-of (length-toBytes countSize) (v .counts)), l)
 
+-- ---- so many counts in bytes
+pub length-countsIn : (k : ℕ) (b : List ℕ) → length (countsIn k b) ≡ k
+length-countsIn k b = length-map (pieces countSize k b) fromBytes ∙ length-pieces countSize k b
+
+-- the count at a position, as it stands in the bytes from a place on
+pub count-in :
+    (k p : ℕ) (b : List ℕ) (i : ℕ)
+    → i < k
+    → getD (countsIn k (drop p b)) i 0 ≡ fromBytes (take countSize (drop (p + countSize * i) b))
+unfolding fromBytes
+count-in k p b i h =
+    List·getD-map fromBytes (pieces countSize k (drop p b)) i []
+    ∙ ap fromBytes (piece-at countSize k i (drop p b) h)
+    ∙ rw drop-drop
+
 pub length-vectorFrom : (b : List ℕ) → length (vectorFrom b .counts) ≡ servers
 unfolding vectorFrom
-length-vectorFrom b = length-map (pieces countSize servers b) fromBytes ∙ length-pieces countSize servers b
+length-vectorFrom b = length-countsIn servers b
 
--- the count at a position, as it stands in the bytes
-pub count-at :
-    (b : List ℕ) (i : ℕ)
-    → i < servers
-    → getD (vectorFrom b .counts) i 0 ≡ fromBytes (take countSize (drop (countSize * i) b))
-unfolding vectorFrom fromBytes
-count-at b i h =
-    List·getD-map fromBytes (pieces countSize servers b) i [] ∙ ap fromBytes (piece-at countSize servers i b h)
-
--- the same, from a place on
 pub count-from :
     (k : ℕ) (b : List ℕ) (i : ℕ)
     → i < servers
     → getD (vectorFrom (drop k b) .counts) i 0 ≡ fromBytes (take countSize (drop (k + countSize * i) b))
-count-from k b i h = count-at (drop k b) i h ∙ rw drop-drop
+unfolding vectorFrom
+count-from k b i h = count-in servers k b i h
 
 -- bytes that agree give the same counts
 pub vector-agree :
@@ -127,7 +133,7 @@ counts-below b h i = go (ltb i servers) refl
   where
     go : (t : Bool) → ltb i servers ≡ t → getD (vectorFrom b .counts) i 0 < 65536
     go true e =
-        rw (count-at b i (ltb-true i servers e)) (from-below countSize (drop (countSize * i) b) (below-drop (countSize * i) b h))
+        rw (count-from 0 b i (ltb-true i servers e)) (from-below countSize (drop (0 + countSize * i) b) (below-drop (0 + countSize * i) b h))
     go false e =
         rw (List·getD-eq-default (vectorFrom b .counts) 0 {n = i} (rw length-vectorFrom (ltb-false i servers e))) (omega arith)
 
@@ -211,10 +217,6 @@ module _ (v w : Vector) (lv : length (v .counts) ≡ servers) (lw : length (w .c
   unfolding maximum
   length-maximum = length-zipWith max (v .counts) (w .counts) (lv ∙ sym lw) ∙ lv
 
--- eight counts copied over eight others
-pub copied-all : (z o : List ℕ) (i : ℕ) → length z ≡ servers → length o ≡ servers → servers ≤ i → take i z ++ drop i o ≡ z
-copied-all z o i lz lo h = rw (take-all i z (omega arith), drop-of-length-le o {i = i} (omega arith), append-nil)
-
 pub sum-more : (l : List ℕ) (i : ℕ) → i < length l → foldr _+_ 0 (take (i + 1) l) ≡ foldr _+_ 0 (take i l) + getD l i 0
 sum-more l i h = rw (take-more l i 0 h) (go (take i l) (getD l i 0))
   where
@@ -291,7 +293,3 @@ limit-at n i h = getD-take servers (replicate n numberMost ++ replicate servers 
 pub length-limits : (n : ℕ) → length (limitsOf n .counts) ≡ servers
 unfolding limitsOf
 length-limits n = rw (length-take, length-append, length-replicate) (omega arith)
-
-pub bytes-all : (v : Vector) → length (v .counts) ≡ servers → (i : ℕ) → servers ≤ i → flatMap (toBytes countSize) (take i (v .counts)) ≡ vectorBytes v
-unfolding vectorBytes
-bytes-all v l i h = rw (take-all i (v .counts) (omega arith))

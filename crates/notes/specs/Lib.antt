@@ -7,3 +7,4 @@ pub mod Vector
 pub mod Record
 pub mod Session
 pub mod Message
+pub mod Forms

@@ -1,4 +1,4 @@
--- Update messages: a header of eight bytes, then the sender's history in order; reading one; the forms that loops need.
+-- Update messages: a header of eight bytes, then the sender's history in order; reading one.
 -- Assumes nothing.
 use Prim.Native.Nat.{ℕ, _+_, _*_, _-_, _/_, _%_}
 use mathlib.Core.Bool.{Bool, true, false, _&&_, not, cond}
@@ -120,12 +120,12 @@ unfoldable pub check : List ℕ → Reply
 check m = cond (messageOk m) (done (headerValues (headerSaid m))) (refusalReply Malformed)
 
 -- a writer answers how many bytes it filled
-abbrev pub writtenReply : Written → Reply
-writtenReply (written.Bytes k) = done (k ∷ [])
-writtenReply (written.Refused r) = refusalReply r
+abbrev pub writerReply : Written → Reply
+writerReply (written.Bytes k) = done (k ∷ [])
+writerReply (written.Refused r) = refusalReply r
 
 abbrev pub filled : Written → List ℕ → Filled
-filled w out = record { reply = writtenReply w; output = out }
+filled w out = record { reply = writerReply w; output = out }
 
 abbrev pub fillUnless : Option Refusal → List ℕ → List ℕ → Filled
 fillUnless r bytes out = fill (Option·map refusalReply r) bytes out
@@ -172,21 +172,3 @@ leftFrom m at = (length m - at) / recordSize
 unfoldable pub Reads : List ℕ → ℕ → List Record → Type 0
 Reads m at [] = readAt m at .found ≡ false
 Reads m at (w ∷ ws) = (readAt m at ≡ record { found = true; write = w }) × Reads m (placeAfter m at) ws
-
--- ---- what the functions of `raw` give, in the forms that loops need; no public call is stated by these
-
--- the most that a position of a well formed T holds, and each of the eight: zero from n on
-abbrev pub limitAt : ℕ → ℕ → ℕ
-limitAt n i = cond (ltb i n) numberMost 0
-
-unfoldable pub limitsOf : ℕ → Vector
-limitsOf n = vector (take servers (replicate n numberMost ++ replicate servers 0))
-
--- a message's header and its length suit each other
-unfoldable pub headerOk : List ℕ → Bool
-headerOk m =
-    serverOk (messageN m) (messageSender m)
-    && leb (field countField m) historyMost
-    && eqb (field offsetField m) headerSize
-    && eqb (field totalField m) (length m)
-    && eqb (length m) (messageSize (field countField m))

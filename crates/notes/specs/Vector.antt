@@ -39,12 +39,19 @@ behind v w = any (λ below. below) (zipWith ltb (v .counts) (w .counts))
 unfoldable pub zeroFrom : ℕ → Vector → Bool
 zeroFrom n v = every (λ x. eqb x 0) (drop n (v .counts))
 
--- a count has two bytes, and a vector its counts' bytes
+-- a count has two bytes; so many counts stand one behind the other
 abbrev pub countSize : ℕ
 countSize = 2
 
+abbrev pub countsIn : ℕ → List ℕ → List ℕ
+countsIn k b = map fromBytes (pieces countSize k b)
+
+abbrev pub countBytes : List ℕ → List ℕ
+countBytes xs = flatMap (toBytes countSize) xs
+
+-- a vector is its counts
 unfoldable pub vectorFrom : List ℕ → Vector
-vectorFrom b = vector (map fromBytes (pieces countSize servers b))
+vectorFrom b = vector (countsIn servers b)
 
 unfoldable pub vectorBytes : Vector → List ℕ
-vectorBytes v = flatMap (toBytes countSize) (v .counts)
+vectorBytes v = countBytes (v .counts)

@@ -3,10 +3,14 @@ ghost use mathlib.Core.Path.{_≡_};
 ghost use Prim.Native.Nat.{_≤_};
 ghost use mathlib.Core.Bool.{_&&_};
 ghost use Rattle.notes.specs.Index.{servers};
+ghost use Rattle.notes.specs.Forms.{headerOk};
 ghost use Rattle.notes.specs.Message.{checkedReply, check as checkOf, whole, recordsIn, recordsOk, filled, write as writeOf};
 use crate::index::ServerId;
-use crate::raw;
+use crate::number;
+use crate::record;
 use crate::record::Record;
+
+pub mod raw;
 
 // What a message says of itself: N, sender and count.
 pub struct Header {
@@ -53,15 +57,38 @@ impl Header {
     pub const MESSAGE_MOST: usize = Self::LEN + Record::LEN * Self::WRITES_MOST;
 }
 
+// A message's header and its length suit each other.
+fn header_ok(m: &[u8]) -> bool
+    ensures { λ r. ⌜ r ≡ headerOk (now (m .entry)) ⌝ }
+{
+    if m.len() < Header::LEN {
+        return false;
+    }
+    if !ServerId(m[Header::SENDER]).is_one_of(m[Header::N]) {
+        return false;
+    }
+    let count = number::raw::u16_at(m, Header::COUNT) as usize;
+    if Header::WRITES_MOST < count {
+        return false;
+    }
+    if (number::raw::u16_at(m, Header::OFFSET) as usize) != Header::LEN {
+        return false;
+    }
+    if (number::raw::u16_at(m, Header::TOTAL) as usize) != m.len() {
+        return false;
+    }
+    m.len() == Header::LEN + Record::LEN * count
+}
+
 // Answers N, sender and count, or 6.
 pub fn check(m: &[u8]) -> Checked
     ensures { λ r. ⌜ checkedReply r ≡ checkOf (now (m .entry)) ⌝ }
 {
-    if !raw::header_ok(m) {
+    if !header_ok(m) {
         return Checked::Refused(Refusal::Malformed);
     }
     let n = m[Header::N];
-    if !raw::all_well_formed(&m[Header::LEN..], n) {
+    if !record::raw::all_well_formed(&m[Header::LEN..], n) {
         return Checked::Refused(Refusal::Malformed);
     }
     Checked::Update(Header {
@@ -82,7 +109,7 @@ fn records_ok(b: &[u8], n: u8) -> bool
     if Header::WRITES_MOST < b.len() / Record::LEN {
         return false;
     }
-    raw::all_well_formed(b, n)
+    record::raw::all_well_formed(b, n)
 }
 
 // Writes the message of these records at the start of out: 1 for N or sender, then 6, then 9 for out.

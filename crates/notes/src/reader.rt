@@ -8,7 +8,7 @@ ghost use Rattle.notes.specs.Message.{check as checkOf, firstPlace, read
 use crate::message;
 use crate::message::Checked;
 use crate::message::Header;
-use crate::raw;
+use crate::record;
 use crate::record::Record;
 
 // What reading finds: a write, or that no whole record is left. An enum cannot hold a record.
@@ -51,7 +51,7 @@ pub fn read_at(m: &[u8], at: usize) -> Item
     if whole_at(m.len(), at) {
         return Item {
             found: true,
-            write: raw::decoded(&m[at..at + Record::LEN]),
+            write: record::raw::decoded(&m[at..at + Record::LEN]),
         };
     }
     Item {

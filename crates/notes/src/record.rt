@@ -3,8 +3,11 @@ ghost use mathlib.Core.Path.{_≡_};
 ghost use Rattle.notes.specs.Record.{decode, encode, number as numberOf, inRange, wellFormed, beats as beatsBy};
 use crate::index::PhoneId;
 use crate::index::ServerId;
-use crate::raw;
+use crate::number;
+use crate::vector;
 use crate::vector::Vector;
+
+pub mod raw;
 
 pub struct Record {
     pub origin: ServerId,
@@ -54,12 +57,12 @@ impl Record {
     {
         let stamp = self.stamp;
         let mut b = [0u8; Self::LEN];
-        raw::put_u8(&mut b, Self::ORIGIN, self.origin.0);
-        raw::put_u8(&mut b, Self::PHONE, self.phone.0);
-        raw::put_u16(&mut b, Self::CELL, self.cell);
-        raw::put_u32(&mut b, Self::VALUE, self.value);
-        raw::put_u32(&mut b, Self::TIME, self.time);
-        raw::put_vector(&mut b, Self::STAMP, stamp);
+        number::raw::put_u8(&mut b, Self::ORIGIN, self.origin.0);
+        number::raw::put_u8(&mut b, Self::PHONE, self.phone.0);
+        number::raw::put_u16(&mut b, Self::CELL, self.cell);
+        number::raw::put_u32(&mut b, Self::VALUE, self.value);
+        number::raw::put_u32(&mut b, Self::TIME, self.time);
+        vector::raw::put_vector(&mut b, Self::STAMP, stamp);
         b
     }
 

@@ -9,6 +9,7 @@ pub struct Session {
 }
 
 impl Session {
+    // A new session, at zero.
     pub fn new() -> Session
         ensures { λ r. ⌜ r ≡ newSession ⌝ }
     {
@@ -17,20 +18,21 @@ impl Session {
         }
     }
 
-    // The vector that a read's request carries, and a write's.
+    // The vector that a read's request carries: R.
     pub fn read_carries(self) -> Vector
         ensures { λ r. ⌜ r ≡ readCarries self ⌝ }
     {
         self.reads
     }
 
+    // The vector that a write's request carries: zero.
     pub fn write_carries(self) -> Vector
         ensures { λ r. ⌜ r ≡ writeCarries self ⌝ }
     {
         Vector::zero()
     }
 
-    // The session after a read's reply, and after a write's.
+    // The session after a read's reply: R raised to the maximum.
     pub fn after_read(self, reply: Vector) -> Session
         ensures { λ r. ⌜ r ≡ afterRead self reply ⌝ }
     {
@@ -40,19 +42,21 @@ impl Session {
         }
     }
 
+    // The session after a write's reply: as it was.
     pub fn after_write(self, reply: Vector) -> Session
         ensures { λ r. ⌜ r ≡ afterWrite self reply ⌝ }
     {
         self
     }
 
-    // A read's reply raises the session in place; a write's leaves it.
+    // A read's reply raises the session in place.
     pub fn raise(&mut self, reply: Vector)
         ensures { λ _. ⌜ now (self .exit) ≡ afterRead (now (self .entry)) reply ⌝ }
     {
         *self = self.after_read(reply);
     }
 
+    // A write's reply leaves it.
     pub fn keep(&mut self, reply: Vector)
         ensures { λ _. ⌜ now (self .exit) ≡ afterWrite (now (self .entry)) reply ⌝ }
     {

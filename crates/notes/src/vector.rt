@@ -3,18 +3,23 @@ ghost use mathlib.Core.Path.{_≡_};
 ghost use Prim.Native.Nat.{max};
 ghost use Rattle.notes.specs.Vector.{zeros, at as countAt, raised as raisedTo, maximum as maximumOf, sum as sumOf, behind, zeroFrom};
 use crate::index::ServerId;
-use crate::raw;
+use crate::number;
+
+pub mod raw;
 
 pub struct Vector {
     pub counts: [u16; Vector::LEN],
 }
 
 impl Vector {
-    // How many positions a vector has, and how many bytes each of them.
+    // How many positions a vector has, how many bytes each of them, and all.
     pub const LEN: usize = 8;
 
     pub const COUNT_LEN: usize = 2;
 
+    pub const SIZE: usize = Self::COUNT_LEN * Self::LEN;
+
+    // Eight zeros.
     pub fn zero() -> Vector
         ensures { λ r. ⌜ r ≡ zeros ⌝ }
     {
@@ -56,13 +61,14 @@ impl Vector {
         m
     }
 
+    // The sum of the eight counts.
     pub fn sum(self) -> u32
         ensures { λ r. ⌜ r ≡ sumOf self ⌝ }
     {
         let mut total: u32 = 0;
         let mut i: usize = 0;
         while i < Self::LEN {
-            total += raw::wide32(self.counts[i]);
+            total += number::wide32(self.counts[i]);
             i += 1;
         }
         total

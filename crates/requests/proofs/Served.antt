@@ -9,79 +9,53 @@ use native.Mathlib.Omega.{arith}
 use lib.ListN.{length, take}
 use lib.Seq.{take-all, take-nil}
 use Rattle.notes.specs.Record.{recordSize}
-use Rattle.notes.specs.Message.{historyMost}
 use Rattle.notes.specs.declared.index.PhoneId.{PhoneId}
 use Rattle.notes.specs.declared.record.Record.{Record}
 use Rattle.notes.specs.declared.vector.Vector.{Vector}
 use Rattle.notes.proofs.Records.{length-records}
 use Rattle.rules.specs.declared.answer.Answer.the-variants as answer
+use Rattle.rules.specs.declared.event.Request.{Request}
 use Rattle.rules.specs.declared.event.Request.the-variants.{Read}
 use Rattle.rules.specs.declared.state.State.{State}
-use Rattle.rules.specs.Memory.{withPhone, Memory, memory, inCR, rwWith, noting, writes}
+use Rattle.rules.specs.Memory.{Memory, memory, writes}
 use Rattle.rules.specs.Writes.{winner}
-use Rattle.rules.specs.Image.{historySize, imageSize, checkpointCount, checkpoint, log, stored, checkpointPlan}
+use Rattle.rules.specs.Image.{checkpointCount, checkpoint, log, stored, checkpointPlan}
 use Rattle.rules.specs.Answer.{valueReply, answerReply, effectOf}
-use Rattle.rules.specs.Sound.{sound}
-use Rattle.rules.specs.Request.{noted, cleared, valueOf, due, ownPlan, plan, ready, performed, replyTo, served}
+use Rattle.rules.specs.Request.{valueOf, due, ownPlan, plan, ready, performed, replyTo, served}
 use Rattle.laws.proofs.Stores.{shows-counts, length-checkpointPlan}
 use Rattle.laws.proofs.Sound.{kept-few}
-use Rattle.laws.proofs.Open.{Up, opened}
+use Rattle.laws.proofs.Open.{open-up}
+use Rattle.laws.proofs.Passed.{Admitted}
+use Rattle.laws.proofs.Reading.{ready-is}
 use Rattle.requests.specs.declared.winner.Won.{Won}
-use Rattle.requests.specs.Parts.{winnerOf, winnerValue}
+use Rattle.requests.specs.Forms.{Room, winnerOf, winnerValue}
 
--- ---- a sound memory that is up
+-- ---- what is admitted has room
 
-module _ (m : Memory) (long : imageSize ≤ length (m .image)) (e : sound m ≡ true) (up : m .state .up ≡ true) where
-  open-up : Up m
-  open-up = opened m long up e
-
-  pub held-most : m .state .held ≤ historyMost
-  held-most = open-up .facts .few
-
-  pub room : historySize ≤ length (m .history) → recordSize * m .state .held ≤ length (m .history)
-  room h = omega (arith, held-most)
-
-  pub kept-fits : checkpointCount (m .image) ≤ m .state .held
-  kept-fits =
-      let s = m .state in
-      let c = checkpoint (m .image) in
-      let l = log (m .image) in
-      omega (
-        arith,
-        shows-counts (s .n) (s .own) (m .image) c l (open-up .shows) .0,
-        kept-few s (writes m) c l (open-up .facts),
-        length-records (s .held) (m .history),
-      )
+pub room : (m : Memory) (i : PhoneId) (q : Request) → Admitted m i q → Room (m .state .held) (checkpointCount (m .image)) (m .history) (m .image)
+room m i q a =
+    let u = open-up m (a .head) (a .up) in
+    let s = m .state in
+    let c = checkpoint (m .image) in
+    let l = log (m .image) in
+    record {
+      history = omega (arith, u .facts .few, a .head .history);
+      image = a .head .image;
+      kept =
+          omega (
+            arith,
+            shows-counts (s .n) (s .own) (m .image) c l (u .shows) .0,
+            kept-few s (writes m) c l (u .facts),
+            length-records (s .held) (m .history),
+          );
+      few = u .facts .few;
+    }
 
 -- ---- the state and the reply
 
--- noted, and cleared or not, a state holds as many writes and has the same V
 module _ (m : Memory) (i : PhoneId) (cell : ℕ) where
   abbrev s : State
   s = m .state
-
-  abbrev t : Bool → State
-  t b = cond b s (noting (withPhone (s .cr) i) (rwWith s i (s .nwrites)) (s .nwrites) s)
-
-  held-ready : ready m i (Read cell) .held ≡ s .held
-  unfolding ready noted cleared
-  held-ready = go (due m i (Read cell)) (inCR s i)
-    where
-      go : (a b : Bool) → cond a (cleared (t b)) (t b) .held ≡ s .held
-      go true true = refl
-      go true false = refl
-      go false true = refl
-      go false false = refl
-
-  vector-ready : ready m i (Read cell) .vector ≡ s .vector
-  unfolding ready noted cleared
-  vector-ready = go (due m i (Read cell)) (inCR s i)
-    where
-      go : (a b : Bool) → cond a (cleared (t b)) (t b) .vector ≡ s .vector
-      go true true = refl
-      go true false = refl
-      go false true = refl
-      go false false = refl
 
   -- the state alone says what a read goes on from
   ready-of : ready (memory s [] []) i (Read cell) ≡ ready m i (Read cell)
@@ -136,30 +110,28 @@ module _ (m : Memory) (i : PhoneId) (cell : ℕ) where
   unfolding stored
   none-stored k e = sym (ap (stored (m .image)) (ap (take k) (plan-none e) ∙ take-nil k))
 
-pub length-read-plan :
+length-read-plan :
     (m : Memory) (i : PhoneId) (cell : ℕ)
-    → recordSize * m .state .held ≤ length (m .history)
-    → checkpointCount (m .image) ≤ m .state .held
+    → Room (m .state .held) (checkpointCount (m .image)) (m .history) (m .image)
     → length (plan m i (Read cell))
     ≡ cond (due m i (Read cell)) (recordSize * (m .state .held - checkpointCount (m .image)) + 2) 0
-length-read-plan m i cell room fits = rw (read-plan m i cell) (go (due m i (Read cell)))
+length-read-plan m i cell room = rw (read-plan m i cell) (go (due m i (Read cell)))
   where
     go :
         (t : Bool)
         → length (cond t (checkpointPlan (m .history) (m .state .held) (checkpointCount (m .image))) [])
         ≡ cond t (recordSize * (m .state .held - checkpointCount (m .image)) + 2) 0
-    go true = length-checkpointPlan (m .history) (m .state .held) (checkpointCount (m .image)) fits room
+    go true = length-checkpointPlan (m .history) (m .state .held) (checkpointCount (m .image)) (room .kept) (room .history)
     go false = refl
 
 -- so many are all of them
 pub read-plan-all :
     (m : Memory) (i : PhoneId) (cell : ℕ)
-    → recordSize * m .state .held ≤ length (m .history)
-    → checkpointCount (m .image) ≤ m .state .held
+    → Room (m .state .held) (checkpointCount (m .image)) (m .history) (m .image)
     → take (recordSize * m .state .held + 2) (plan m i (Read cell)) ≡ plan m i (Read cell)
-read-plan-all m i cell room fits =
+read-plan-all m i cell room =
     take-all (recordSize * m .state .held + 2) (plan m i (Read cell))
-    (rw (length-read-plan m i cell room fits) (go (due m i (Read cell))))
+    (rw (length-read-plan m i cell room) (go (due m i (Read cell))))
   where
     go :
         (t : Bool)
@@ -185,7 +157,7 @@ unfolding served performed replyTo
 read-served m i cell o e =
     rw (
       ready-of m i cell,
-      held-ready m i cell,
-      vector-ready m i cell,
+      ap (λ (t : State). t .held) (ready-is m i (Read cell)),
+      ap (λ (t : State). t .vector) (ready-is m i (Read cell)),
       won-reply (winner cell (writes m)) o (m .state .vector) e,
     )

@@ -10,7 +10,7 @@ use Rattle.notes.specs.Record.{recordSize, encode}
 use Rattle.notes.specs.declared.record.Record.{Record}
 use Rattle.rules.specs.Image.{checkpointField, logField, checkpointPlace, logPlace, Store, count, store, stored, byteStores, writePlan, checkpointPlan}
 use Rattle.laws.proofs.Stores.{cut-bytes}
-use Rattle.requests.specs.Parts.{writeBytesPlan}
+use Rattle.requests.specs.Forms.{Room, writeBytesPlan}
 
 -- the first k, or all where there are fewer
 pub take-least : (k : ℕ) (l : List ℕ) → take (min k (length l)) l ≡ take k l
@@ -69,7 +69,7 @@ module _ (i h : List ℕ) (held kept k : ℕ) where
   abbrev wanted : List ℕ
   wanted = stored i (take k (checkpointPlan h held kept))
 
-  module _ (room : recordSize * held ≤ length h) (few : kept ≤ held) where
+  module _ (room : Room held kept h i) where
     same-new : recordSize * (held - kept) ≡ recordSize * held - recordSize * kept
     same-new = omega arith
 

@@ -16,7 +16,7 @@ use Rattle.notes.proofs.Lists.{take-more}
 use Rattle.notes.proofs.Records.{length-records, record-at}
 use Rattle.rules.specs.Writes.{keepIf, keep, better, best, winner}
 use Rattle.laws.proofs.Lists.{keep-append}
-use Rattle.requests.specs.Parts.{recordAt, bestAt, orBetter, winnerValue}
+use Rattle.requests.specs.Forms.{recordAt, bestAt, orBetter, winnerValue}
 
 best-append : (w : Option Record) (a b : List Record) → best w (a ++ b) ≡ best (best w a) b
 unfolding best

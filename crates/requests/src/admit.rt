@@ -1,29 +1,25 @@
 // What a request is refused for, in order.
 ghost use mathlib.Core.Path.{_≡_};
-ghost use Prim.Native.Nat.{_≤_};
-ghost use mathlib.Core.Bool.{_&&_};
-ghost use mathlib.Core.List.{[], _∷_};
-ghost use lib.Dec.{leb};
+ghost use mathlib.Core.List.{List, []};
+ghost use Prim.Native.Nat.{ℕ, _≤_};
 ghost use lib.ListN.{length};
-ghost use Rattle.notes.specs.Message.{historyMost};
-ghost use Rattle.notes.specs.Reply.{given, first};
-ghost use Rattle.rules.specs.Image.{imageSize, logMost, logCount};
-ghost use Rattle.rules.specs.declared.answer.Refusal.the-variants.{HistoryFull, LogFull};
+ghost use Rattle.notes.specs.Reply.{first};
+ghost use Rattle.rules.specs.Image.{imageSize};
 ghost use Rattle.rules.specs.Memory.{memory};
-ghost use Rattle.rules.specs.Request.{cellOf, isWrite, outOfRange, requestRefusals};
-ghost use Rattle.sound.specs.Tests.{headRefusal};
+ghost use Rattle.rules.specs.Answer.{verdictRefusal};
+ghost use Rattle.rules.specs.Request.{cellOf, isWrite, outOfRange, fullRefusals, requestRefusals};
+use memory::head;
+use memory::image;
+use memory::image::Image;
 use notes::index::PhoneId;
 use notes::index::ServerId;
 use notes::message::Header;
 use notes::record::Record;
 use notes::vector::Vector;
 use rules::answer::Refusal;
+use rules::answer::Verdict;
 use rules::event::Request;
 use rules::state::State;
-use sound::head;
-use sound::head::Head;
-use sound::image::Image;
-use sound::raw;
 
 fn cell_of(q: Request) -> u16
     ensures { λ r. ⌜ r ≡ cellOf q ⌝ }
@@ -68,22 +64,22 @@ fn out_of_range(s: State, at: ServerId, phone: PhoneId, q: Request, asked: Vecto
     !asked.zero_from(s.n)
 }
 
-// A write finds the history or the log full.
-fn full(s: State, q: Request, image: &[u8]) -> Head
+// A write finds the history or the log full; the history's bytes do not matter.
+fn full(s: State, q: Request, image: &[u8]) -> Verdict
     requires { ⌜ imageSize ≤ length (now image) ⌝ }
-    ensures { λ r. ⌜ headRefusal r ≡ first (given (isWrite q && leb historyMost (s .held)) HistoryFull ∷ given (isWrite q && leb logMost (logCount (now (image .entry)))) LogFull ∷ []) ⌝ }
+    ensures { λ r. ⌜ ((h : List ℕ) → verdictRefusal r ≡ first (fullRefusals (memory s h (now (image .entry))) q)) ⌝ }
 {
     if !is_write(q) {
-        return Head::Passed;
+        return Verdict::Passed;
     }
     if Header::WRITES_MOST <= (s.held as usize) {
-        return Head::Refused(Refusal::HistoryFull);
+        return Verdict::Refused(Refusal::HistoryFull);
     }
-    let counts = raw::counts(image);
+    let counts = image::raw::counts(image);
     if Image::LOG_MOST <= counts.log {
-        return Head::Refused(Refusal::LogFull);
+        return Verdict::Refused(Refusal::LogFull);
     }
-    Head::Passed
+    Verdict::Passed
 }
 
 // The first refusal of a request, for a caller whose own test comes after it.
@@ -95,18 +91,18 @@ pub fn request_head(
     asked: Vector,
     history: &[u8],
     image: &[u8],
-) -> Head
-    ensures { λ r. ⌜ headRefusal r ≡ first (requestRefusals (memory s (now (history .entry)) (now (image .entry))) at phone q asked) ⌝ }
+) -> Verdict
+    ensures { λ r. ⌜ verdictRefusal r ≡ first (requestRefusals (memory s (now (history .entry)) (now (image .entry))) at phone q asked) ⌝ }
 {
-    if let Head::Refused(k) = head::up_head(s, history, image) {
-        return Head::Refused(k);
+    if let Verdict::Refused(k) = head::up_head(s, history, image) {
+        return Verdict::Refused(k);
     }
     if out_of_range(s, at, phone, q, asked) {
-        return Head::Refused(Refusal::OutOfRange);
+        return Verdict::Refused(Refusal::OutOfRange);
     }
     let vector = s.vector;
     if vector.is_behind(asked) {
-        return Head::Refused(Refusal::NotYet);
+        return Verdict::Refused(Refusal::NotYet);
     }
     full(s, q, image)
 }

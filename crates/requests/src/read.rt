@@ -1,29 +1,28 @@
 // A read: served, or cut after some of the stores of the checkpoint that it takes where one is due.
 ghost use mathlib.Core.Path.{_≡_};
-ghost use mathlib.Core.Bool.{true, cond};
-ghost use mathlib.Core.List.{List, []};
-ghost use Prim.Native.Nat.{ℕ, _*_, _≤_, _<_};
+ghost use mathlib.Core.Bool.{cond};
+ghost use mathlib.Core.List.{[]};
+ghost use Prim.Native.Nat.{ℕ, _<_};
 ghost use lib.ListN.{length, take};
 ghost use Rattle.notes.specs.Index.{phones};
-ghost use Rattle.notes.specs.Record.{recordSize};
-ghost use Rattle.notes.specs.Message.{historyMost};
 ghost use Rattle.rules.specs.declared.event.Request.the-variants.{Read};
 ghost use Rattle.rules.specs.Memory.{inSet, withPhone, memory};
-ghost use Rattle.rules.specs.Image.{historySize, imageSize, checkpointCount, stored};
+ghost use Rattle.rules.specs.Image.{stored, checkpointCount};
 ghost use Rattle.rules.specs.Answer.{effectOf};
-ghost use Rattle.rules.specs.Sound.{sound};
 ghost use Rattle.rules.specs.Request.{noted as notedOf, cleared as clearedOf, due as dueOf, plan, ready as readyOf, served, cutAfter};
+ghost use Rattle.laws.proofs.Passed.{Admitted};
+ghost use Rattle.requests.specs.Forms.{Room};
 use crate::stores;
 use crate::winner;
 use crate::winner::Won;
+use memory::image;
+use memory::state;
 use notes::index::PhoneId;
 use notes::record::Record;
 use rules::answer::Answer;
 use rules::answer::Outcome;
 use rules::state::ReadTable;
 use rules::state::State;
-use sound::raw;
-use sound::state;
 
 fn is_in(cr: u64, phone: PhoneId) -> bool
     requires { ⌜ phone .0 < phones ⌝ }
@@ -96,18 +95,19 @@ fn answer(won: Won) -> Answer
 
 // The first k of a read's stores, or all where k is at least their number.
 fn store_due(s: State, phone: PhoneId, k: usize, history: &[u8], image: &mut [u8])
-    requires { ⌜ (recordSize * s .held ≤ length (now history)) × (imageSize ≤ length (now image)) × (checkpointCount (now image) ≤ s .held) × (s .held ≤ historyMost) × (phone .0 < phones) ⌝ }
+    requires { ⌜ Room (s .held) (checkpointCount (now image)) (now history) (now image) × (phone .0 < phones) ⌝ }
     ensures { λ _. ⌜ ((cell : ℕ) → now (image .exit) ≡ stored (now (image .entry)) (take k (plan (memory s (now (history .entry)) (now (image .entry))) phone (Read cell)))) ⌝ }
 {
     if !due(s, phone) {
         return;
     }
-    let counts = raw::counts(image);
+    let counts = image::raw::counts(image);
     stores::store_checkpoint(image, history, s.held as usize, counts.checkpoint, k);
 }
 
+// The read served: all its stores, the winner's value, and the read noted.
 pub(crate) fn read(s: State, phone: PhoneId, cell: u16, history: &[u8], image: &mut [u8]) -> Outcome
-    requires { ⌜ (historySize ≤ length (now history)) × (imageSize ≤ length (now image)) × (sound (memory s (now history) (now image)) ≡ true) × (s .up ≡ true) × (phone .0 < phones) ⌝ }
+    requires { ⌜ Admitted (memory s (now history) (now image)) phone (Read cell) ⌝ }
     ensures { λ r. ⌜ effectOf r (now (history .entry)) (now (image .exit)) ≡ served (memory s (now (history .entry)) (now (image .entry))) phone (Read cell) ⌝ }
 {
     let held = s.held as usize;
@@ -121,6 +121,7 @@ pub(crate) fn read(s: State, phone: PhoneId, cell: u16, history: &[u8], image: &
     }
 }
 
+// The read cut after k stores.
 pub(crate) fn read_cut(
     s: State,
     phone: PhoneId,
@@ -129,21 +130,27 @@ pub(crate) fn read_cut(
     history: &[u8],
     image: &mut [u8],
 ) -> Outcome
-    requires { ⌜ (historySize ≤ length (now history)) × (imageSize ≤ length (now image)) × (sound (memory s (now history) (now image)) ≡ true) × (s .up ≡ true) × (phone .0 < phones) ⌝ }
+    requires { ⌜ Admitted (memory s (now history) (now image)) phone (Read cell) ⌝ }
     ensures { λ r. ⌜ effectOf r (now (history .entry)) (now (image .exit)) ≡ cutAfter (memory s (now (history .entry)) (now (image .entry))) phone (Read cell) k ⌝ }
 {
     store_due(s, phone, k, history, image);
     state::finished(state::down(s))
 }
 
-// How many stores a read makes: those of a checkpoint where one is due. The history's bytes do not matter.
-pub(crate) fn read_stores(s: State, phone: PhoneId, cell: u16, image: &[u8]) -> usize
-    requires { ⌜ (imageSize ≤ length (now image)) × (checkpointCount (now image) ≤ s .held) × (phone .0 < phones) ⌝ }
-    ensures { λ r. ⌜ ((h : List ℕ) → recordSize * s .held ≤ length h → r ≡ length (plan (memory s h (now (image .entry))) phone (Read cell))) ⌝ }
+// How many stores a read makes: those of a checkpoint where one is due. Of the history only its statement speaks.
+pub(crate) fn read_stores(
+    s: State,
+    phone: PhoneId,
+    cell: u16,
+    history: &[u8],
+    image: &[u8],
+) -> usize
+    requires { ⌜ Room (s .held) (checkpointCount (now image)) (now history) (now image) × (phone .0 < phones) ⌝ }
+    ensures { λ r. ⌜ r ≡ length (plan (memory s (now (history .entry)) (now (image .entry))) phone (Read cell)) ⌝ }
 {
     if !due(s, phone) {
         return 0;
     }
-    let counts = raw::counts(image);
+    let counts = image::raw::counts(image);
     Record::LEN * ((s.held as usize) - counts.checkpoint) + 2
 }

@@ -1,27 +1,24 @@
 // A phone's request: served, or cut after some of its stores.
 ghost use mathlib.Core.Path.{_≡_};
-ghost use Prim.Native.Nat.{_≤_, _<_};
-ghost use mathlib.Core.Bool.{true};
 ghost use lib.ListN.{length};
-ghost use Rattle.notes.specs.Index.{phones};
 ghost use Rattle.rules.specs.Memory.{memory};
-ghost use Rattle.rules.specs.Image.{historySize, imageSize};
-ghost use Rattle.rules.specs.Sound.{sound};
 ghost use Rattle.rules.specs.Answer.{effectOf};
 ghost use Rattle.rules.specs.Request.{plan, request as requestOf, requestCut};
+ghost use Rattle.laws.proofs.Passed.{Admitted};
 use crate::admit;
 use crate::read;
 use crate::write;
+use memory::state;
 use notes::index::PhoneId;
 use notes::index::ServerId;
 use notes::vector::Vector;
 use rules::answer::Outcome;
 use rules::answer::Refusal;
+use rules::answer::Verdict;
 use rules::event::Request;
 use rules::state::State;
-use sound::head::Head;
-use sound::state;
 
+// A read or a write, served or refused.
 pub fn request(
     s: State,
     at: ServerId,
@@ -33,7 +30,7 @@ pub fn request(
 ) -> Outcome
     ensures { λ r. ⌜ effectOf r (now (history .exit)) (now (image .exit)) ≡ requestOf (memory s (now (history .entry)) (now (image .entry))) at phone q asked ⌝ }
 {
-    if let Head::Refused(k) = admit::request_head(s, at, phone, q, asked, history, image) {
+    if let Verdict::Refused(k) = admit::request_head(s, at, phone, q, asked, history, image) {
         return state::refused(k, s);
     }
     match q {
@@ -63,7 +60,7 @@ pub fn request_cut(
 ) -> Outcome
     ensures { λ r. ⌜ effectOf r (now (history .entry)) (now (image .exit)) ≡ requestCut (memory s (now (history .entry)) (now (image .entry))) at phone q k asked ⌝ }
 {
-    if let Head::Refused(refusal) = admit::request_head(s, at, phone, q, asked, history, image) {
+    if let Verdict::Refused(refusal) = admit::request_head(s, at, phone, q, asked, history, image) {
         return state::refused(refusal, s);
     }
     if stores_of(s, phone, q, history, image) < (k as usize) {
@@ -86,11 +83,11 @@ pub fn request_cut(
 
 // How many stores a request makes.
 fn stores_of(s: State, phone: PhoneId, q: Request, history: &[u8], image: &[u8]) -> usize
-    requires { ⌜ (historySize ≤ length (now history)) × (imageSize ≤ length (now image)) × (sound (memory s (now history) (now image)) ≡ true) × (s .up ≡ true) × (phone .0 < phones) ⌝ }
+    requires { ⌜ Admitted (memory s (now history) (now image)) phone q ⌝ }
     ensures { λ r. ⌜ r ≡ length (plan (memory s (now (history .entry)) (now (image .entry))) phone q) ⌝ }
 {
     match q {
-        Request::Read { cell } => read::read_stores(s, phone, cell, image),
+        Request::Read { cell } => read::read_stores(s, phone, cell, history, image),
         Request::Write {
             cell: _,
             value: _,

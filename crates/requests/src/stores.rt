@@ -1,16 +1,16 @@
 // The stores of a write and of a checkpoint to the image: the first k of them, or all where k is at least their number.
 ghost use mathlib.Core.Path.{_≡_};
-ghost use Prim.Native.Nat.{_+_, _*_, _≤_, _<_, min};
+ghost use Prim.Native.Nat.{_+_, _≤_, _<_, min};
 ghost use lib.ListN.{length, take};
 ghost use lib.Seq.{sets};
 ghost use Rattle.notes.specs.Bytes.{toBytes};
 ghost use Rattle.notes.specs.Record.{recordSize};
 ghost use Rattle.notes.specs.Message.{historyMost};
 ghost use Rattle.rules.specs.Image.{imageSize, logMost, stored, checkpointPlan};
-ghost use Rattle.requests.specs.Parts.{writeBytesPlan};
-use notes::raw;
+ghost use Rattle.requests.specs.Forms.{Room, writeBytesPlan};
+use memory::image::Image;
+use notes::number;
 use notes::record::Record;
-use sound::image::Image;
 
 fn least(a: usize, b: usize) -> usize
     ensures { λ r. ⌜ r ≡ min a b ⌝ }
@@ -32,7 +32,7 @@ fn put_count(image: &mut [u8], place: usize, count: usize)
     requires { ⌜ (place + 2 ≤ length (now image)) × (count ≤ historyMost) ⌝ }
     ensures { λ _. ⌜ now (image .exit) ≡ sets (now (image .entry)) place (toBytes 2 count) ⌝ }
 {
-    raw::put_u16(image, place, count as u16);
+    number::raw::put_u16(image, place, count as u16);
 }
 
 // A record's bytes at the log's next place, then the log count.
@@ -49,7 +49,7 @@ pub(crate) fn store_write(image: &mut [u8], bytes: &[u8], logged: usize, k: usiz
 
 // The bytes of the history's records past those kept, then the checkpoint count, then log count 0.
 pub(crate) fn store_checkpoint(image: &mut [u8], history: &[u8], held: usize, kept: usize, k: usize)
-    requires { ⌜ (imageSize ≤ length (now image)) × (recordSize * held ≤ length (now history)) × (kept ≤ held) × (held ≤ historyMost) ⌝ }
+    requires { ⌜ Room held kept (now history) (now image) ⌝ }
     ensures { λ _. ⌜ now (image .exit) ≡ stored (now (image .entry)) (take k (checkpointPlan (now (history .entry)) held kept)) ⌝ }
 {
     let old = Record::LEN * kept;

@@ -4,8 +4,9 @@ ghost use Prim.Native.Nat.{_+_, _*_, _≤_, _<_};
 ghost use lib.ListN.{length};
 ghost use Rattle.notes.specs.Record.{recordSize, records, beats as beatsBy};
 ghost use Rattle.rules.specs.Writes.{winner as winnerIn};
-ghost use Rattle.requests.specs.Parts.{recordAt, bestAt, orBetter, winnerOf, winnerValue};
-use notes::raw;
+ghost use Rattle.requests.specs.Forms.{recordAt, bestAt, orBetter, winnerOf, winnerValue};
+use notes::number;
+use notes::record;
 use notes::record::Record;
 
 // The winner's value, where the cell has a write; else zero.
@@ -21,8 +22,8 @@ fn beats(history: &[u8], k: usize, other: usize) -> bool
 {
     let at = Record::LEN * k;
     let there = Record::LEN * other;
-    let a = raw::decoded(&history[at..at + Record::LEN]);
-    let b = raw::decoded(&history[there..there + Record::LEN]);
+    let a = record::raw::decoded(&history[at..at + Record::LEN]);
+    let b = record::raw::decoded(&history[there..there + Record::LEN]);
     a.beats(b)
 }
 
@@ -32,7 +33,7 @@ fn better(history: &[u8], held: usize, cell: u16, best: usize, k: usize) -> usiz
     ensures { λ r. ⌜ bestAt held (now (history .entry)) r ≡ orBetter cell (bestAt held (now (history .entry)) best) (recordAt (now (history .entry)) k) ⌝ }
 {
     let at = Record::LEN * k;
-    if raw::u16_at(&history[at..at + Record::LEN], Record::CELL) != cell {
+    if number::raw::u16_at(&history[at..at + Record::LEN], Record::CELL) != cell {
         return best;
     }
     if held <= best {
@@ -60,6 +61,6 @@ pub(crate) fn winner(history: &[u8], held: usize, cell: u16) -> Won
     let at = Record::LEN * best;
     Won {
         some: true,
-        value: raw::u32_at(&history[at..at + Record::LEN], Record::VALUE),
+        value: number::raw::u32_at(&history[at..at + Record::LEN], Record::VALUE),
     }
 }

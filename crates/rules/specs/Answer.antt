@@ -90,8 +90,12 @@ unless (some r) m e = replying (refusalReply r) zeros m
 
 -- ---- the other calls' answers
 
+abbrev pub verdictRefusal : Verdict → Option Refusal
+verdictRefusal verdict.Passed = none
+verdictRefusal (verdict.Refused r) = some r
+
 abbrev pub verdictReply : Verdict → Reply
-verdictReply verdict.Sound = doneReply
+verdictReply verdict.Passed = doneReply
 verdictReply (verdict.Refused r) = refusalReply r
 
 abbrev pub statusReply : Status → Reply
@@ -123,3 +127,6 @@ isDown m = not (m .state .up)
 -- the event's server isn't the state's own
 abbrev pub elsewhere : Memory → ServerId → Bool
 elsewhere m j = not (eqb (j .0) (m .state .own .0))
+
+abbrev pub hereRefusals : Memory → ServerId → List (Option Refusal)
+hereRefusals m j = given (elsewhere m j) OutOfRange ∷ []

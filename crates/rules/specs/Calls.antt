@@ -95,14 +95,18 @@ found k part = record { number = k; values = part }
 
 -- ---- the server's own update message, into an output
 
-abbrev pub filled : Message → List ℕ → Filled
-filled a out = record { reply = messageReply a; output = out }
+abbrev pub messageFilled : Message → List ℕ → Filled
+messageFilled a out = record { reply = messageReply a; output = out }
 
 unfoldable pub ownMessage : Memory → List ℕ
 ownMessage m = messageOf (m .state .n) (m .state .own) (writes m)
 
+-- 9 for the output is last
+abbrev pub roomRefusals : Memory → List ℕ → List (Option Refusal)
+roomRefusals m out = given (ltb (length out) (messageSize (m .state .held))) TooShort ∷ []
+
+abbrev pub messageRefusals : Memory → List ℕ → List (Option Refusal)
+messageRefusals m out = head m (isDown m) ++ roomRefusals m out
+
 unfoldable pub message : Memory → List ℕ → Filled
-message m out =
-    fill (Option·map refusalReply (first (head m (isDown m) ++ given (ltb (length out) (messageSize (m .state .held))) TooShort ∷ [])))
-    (ownMessage m)
-    out
+message m out = fill (Option·map refusalReply (first (messageRefusals m out))) (ownMessage m) out

@@ -114,21 +114,33 @@ abbrev pub outOfRange : Memory → ServerId → PhoneId → Request → Vector �
 outOfRange m j i q v =
     elsewhere m j || not (ltb (i .0) phones) || not (ltb (cellOf q) cells) || not (zeroFrom (m .state .n) v)
 
+-- a write finds the history full, or the log
+abbrev pub fullHistory : Memory → Request → Bool
+fullHistory m q = isWrite q && leb historyMost (m .state .held)
+
+abbrev pub fullLog : Memory → Request → Bool
+fullLog m q = isWrite q && leb logMost (logCount (m .image))
+
+abbrev pub fullRefusals : Memory → Request → List (Option Refusal)
+fullRefusals m q = given (fullHistory m q) HistoryFull ∷ given (fullLog m q) LogFull ∷ []
+
+-- what a server that is up refuses
+abbrev pub askRefusals : Memory → ServerId → PhoneId → Request → Vector → List (Option Refusal)
+askRefusals m j i q v =
+    given (outOfRange m j i q v) OutOfRange ∷ given (behind (m .state .vector) v) NotYet ∷ fullRefusals m q
+
 unfoldable pub requestRefusals : Memory → ServerId → PhoneId → Request → Vector → List (Option Refusal)
-requestRefusals m j i q v =
-    head m (isDown m)
-    ++ given (outOfRange m j i q v) OutOfRange
-    ∷ given (behind (m .state .vector) v) NotYet
-    ∷ given (isWrite q && leb historyMost (m .state .held)) HistoryFull
-    ∷ given (isWrite q && leb logMost (logCount (m .image))) LogFull
-    ∷ []
+requestRefusals m j i q v = head m (isDown m) ++ askRefusals m j i q v
 
 -- a cut count is from 0 to the number of stores, and is tested last
-abbrev pub cutRefusal : Memory → PhoneId → Request → ℕ → Option Refusal
-cutRefusal m i q k = given (not (leb k (length (plan m i q)))) OutOfRange
+abbrev pub countRefusals : Memory → PhoneId → Request → ℕ → List (Option Refusal)
+countRefusals m i q k = given (not (leb k (length (plan m i q)))) OutOfRange ∷ []
+
+abbrev pub cutRefusals : Memory → ServerId → PhoneId → Request → ℕ → Vector → List (Option Refusal)
+cutRefusals m j i q k v = requestRefusals m j i q v ++ countRefusals m i q k
 
 unfoldable pub request : Memory → ServerId → PhoneId → Request → Vector → Effect
 request m j i q v = unless (first (requestRefusals m j i q v)) m (served m i q)
 
 unfoldable pub requestCut : Memory → ServerId → PhoneId → Request → ℕ → Vector → Effect
-requestCut m j i q k v = unless (first (requestRefusals m j i q v ++ cutRefusal m i q k ∷ [])) m (cutAfter m i q k)
+requestCut m j i q k v = unless (first (cutRefusals m j i q k v)) m (cutAfter m i q k)

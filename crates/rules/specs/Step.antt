@@ -12,7 +12,7 @@ use Rattle.notes.specs.Vector.{at, raised}
 use Rattle.notes.specs.Record.{recordSize, number, recordBytes}
 use Rattle.notes.specs.Message.{historyMost, messageOk, messageN, messageSender, brought}
 use Rattle.rules.specs.Writes.{Vector, Record, ServerId}
-use Rattle.rules.specs.Answer.{Refusal, OutOfRange, Unsound, HistoryFull, Gap, OwnAhead, Effect, finished, unless, head, isDown, elsewhere}
+use Rattle.rules.specs.Answer.{Refusal, Unsound, HistoryFull, Gap, OwnAhead, Effect, finished, unless, head, isDown, hereRefusals}
 use Rattle.rules.specs.Memory.{Memory, withState, withHistory, holding, downOf}
 use Rattle.rules.specs.declared.event.Event.{Event}
 use Rattle.rules.specs.declared.event.What.{What}
@@ -73,15 +73,17 @@ updated m t =
 abbrev pub suitable : Memory → List ℕ → Bool
 suitable m msg = messageOk msg && eqb (messageN msg) (m .state .n) && not (eqb (messageSender msg .0) (m .state .own .0))
 
+-- before its writes are looked at
+abbrev pub arrivalRefusals : Memory → ServerId → List ℕ → List (Option Refusal)
+arrivalRefusals m j msg = head m (isDown m) ++ hereRefusals m j ++ given (not (suitable m msg)) Unsound ∷ []
+
+-- the first of its writes that is refused; then whether there is room for the new ones
+abbrev pub takingRefusals : Memory → Taken → List (Option Refusal)
+takingRefusals m t =
+    t .refusal ∷ given (not (leb (m .state .held + length (t .new)) historyMost)) HistoryFull ∷ []
+
 unfoldable pub updateRefusals : Memory → ServerId → List ℕ → List (Option Refusal)
-updateRefusals m j msg =
-    let t = takenFrom m msg in
-    head m (isDown m)
-    ++ given (elsewhere m j) OutOfRange
-    ∷ given (not (suitable m msg)) Unsound
-    ∷ t .refusal
-    ∷ given (not (leb (m .state .held + length (t .new)) historyMost)) HistoryFull
-    ∷ []
+updateRefusals m j msg = arrivalRefusals m j msg ++ takingRefusals m (takenFrom m msg)
 
 unfoldable pub update : Memory → ServerId → List ℕ → Effect
 update m j msg = unless (first (updateRefusals m j msg)) m (finished (updated m (takenFrom m msg)))
@@ -90,7 +92,7 @@ update m j msg = unless (first (updateRefusals m j msg)) m (finished (updated m 
 
 -- what they refuse, in order
 unfoldable pub plainRefusals : Memory → Bool → ServerId → List (Option Refusal)
-plainRefusals m wrong j = head m wrong ++ given (elsewhere m j) OutOfRange ∷ []
+plainRefusals m wrong j = head m wrong ++ hereRefusals m j
 
 -- a plain cut stores nothing
 unfoldable pub cut : Memory → ServerId → Effect

@@ -32,9 +32,9 @@ pub struct Outcome {
     pub next: State,
 }
 
-// What judging a state with its buffers finds.
+// What tests find: nothing to refuse, or the first refusal.
 pub enum Verdict {
-    Sound,
+    Passed,
     Refused(Refusal),
 }
 

@@ -1,34 +1,47 @@
--- Laws of the refusals of a cut and of a recovery, row by row.
+-- Laws of the refusals of a cut, of a recovery and of a message, row by row.
 -- Assumes nothing.
-use mathlib.Core.Bool.{Bool}
-use mathlib.Core.List.{List, [], _∷_}
+use Prim.Native.Nat.{ℕ}
+use mathlib.Core.Bool.{Bool, not}
+use mathlib.Core.List.{List, [], _∷_, _++_, append-assoc}
 use mathlib.Core.Option.{Option, none, some}
-use mathlib.Core.Path.{_≡_, ap, _∙_}
+use mathlib.Core.Path.{_≡_, ap, sym, _∙_}
 use borrow.Author.Tests.{eq-eqb, ne-eqb}
-use Rattle.notes.specs.Reply.{given, orElse, first}
-use Rattle.notes.proofs.Answers.{first-append}
+use Rattle.notes.specs.Reply.{given, first}
+use Rattle.notes.proofs.Answers.{first-append, first-stays, first-goes-on}
 use Rattle.notes.specs.declared.index.ServerId.{ServerId}
 use Rattle.rules.specs.declared.answer.Refusal.{Refusal}
-use Rattle.rules.specs.declared.answer.Refusal.the-variants.{OutOfRange}
+use Rattle.rules.specs.declared.answer.Refusal.the-variants.{OutOfRange, Unsound}
 use Rattle.rules.specs.Memory.{Memory}
-use Rattle.rules.specs.Answer.{head, elsewhere}
-use Rattle.rules.specs.Step.{plainRefusals}
+use Rattle.rules.specs.Answer.{head, isDown, hereRefusals}
+use Rattle.rules.specs.Step.{suitable, arrivalRefusals, plainRefusals}
 
-module _ (m : Memory) (wrong : Bool) (j : ServerId) where
-  abbrev here : List (Option Refusal)
-  here = given (elsewhere m j) OutOfRange ∷ []
+-- an event at another server, and one here
+module _ (m : Memory) (j : ServerId) where
+  pub refused-elsewhere : (j .0 ≡ m .state .own .0 → ⊥) → first (hereRefusals m j) ≡ some OutOfRange
+  refused-elsewhere d = rw (ne-eqb (j .0) (m .state .own .0) d)
 
-  parted : first (plainRefusals m wrong j) ≡ orElse (first (head m wrong)) (first here)
+  pub passed-here : j .0 ≡ m .state .own .0 → first (hereRefusals m j) ≡ none
+  passed-here e = rw (eq-eqb (j .0) (m .state .own .0) e)
+
+  -- that row behind what the head tells
+  pub plain-told :
+      (wrong : Bool) (told : Option Refusal)
+      → told ≡ first (head m wrong)
+      → first (told ∷ hereRefusals m j) ≡ first (plainRefusals m wrong j)
   unfolding plainRefusals
-  parted = first-append (head m wrong) here
+  plain-told wrong told e = rw e (sym (first-append (head m wrong) (hereRefusals m j)))
 
-  pub plain-refused : (k : Refusal) → first (head m wrong) ≡ some k → first (plainRefusals m wrong j) ≡ some k
-  plain-refused k e = parted ∙ ap (λ (x : Option Refusal). orElse x (first here)) e
+  -- and a message's behind both
+  module _ (msg : List ℕ) where
+    abbrev unsuited : List (Option Refusal)
+    unsuited = given (not (suitable m msg)) Unsound ∷ []
 
-  pub plain-elsewhere : first (head m wrong) ≡ none → (j .0 ≡ m .state .own .0 → ⊥) → first (plainRefusals m wrong j) ≡ some OutOfRange
-  plain-elsewhere e d =
-      parted ∙ ap (λ (x : Option Refusal). orElse x (first here)) e ∙ rw (ne-eqb (j .0) (m .state .own .0) d)
+    arrival-rows : arrivalRefusals m j msg ≡ plainRefusals m (isDown m) j ++ unsuited
+    unfolding plainRefusals
+    arrival-rows = sym (append-assoc (head m (isDown m)) (hereRefusals m j) unsuited)
 
-  pub plain-passed : first (head m wrong) ≡ none → j .0 ≡ m .state .own .0 → first (plainRefusals m wrong j) ≡ none
-  plain-passed e d =
-      parted ∙ ap (λ (x : Option Refusal). orElse x (first here)) e ∙ rw (eq-eqb (j .0) (m .state .own .0) d)
+    pub arrival-refused : (k : Refusal) → first (plainRefusals m (isDown m) j) ≡ some k → first (arrivalRefusals m j msg) ≡ some k
+    arrival-refused k e = ap first arrival-rows ∙ first-stays (plainRefusals m (isDown m) j) unsuited k e
+
+    pub arrival-goes-on : first (plainRefusals m (isDown m) j) ≡ none → first (arrivalRefusals m j msg) ≡ first unsuited
+    arrival-goes-on e = ap first arrival-rows ∙ first-goes-on (plainRefusals m (isDown m) j) unsuited e

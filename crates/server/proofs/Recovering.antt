@@ -23,14 +23,15 @@ use Rattle.notes.proofs.Records.{length-records}
 use Rattle.notes.proofs.Vectors.{at-raised, at-raised-other}
 use Rattle.rules.specs.Writes.{writesOf, countOf, tally, inTurn}
 use Rattle.rules.specs.Memory.{memory, blank, holding, noting, noReads}
-use Rattle.rules.specs.Image.{historySize, imageSize, checkpointAt, checkpointCount, logCount, checkpointArea, logArea, logPlace, headerOk, checkpoint, log}
+use Rattle.rules.specs.Image.{checkpointAt, checkpointCount, logCount, checkpointArea, logArea, logPlace, headerOk, checkpoint, log}
 use Rattle.rules.specs.Sound.{later, recovered, recoveredVector, recoveredState, recoveredHistory, recover, suits}
 use Rattle.laws.proofs.Places.{records-drop}
 use Rattle.laws.proofs.Writes.{writesOf-append, writesOf-all, writesOf-none, length-tally, at-tally, vectors-equal, same-server, raised-by}
-use Rattle.sound.specs.Tests.{added, downTest, logTest, walkOf}
-use Rattle.sound.proofs.Same.{bytes-in}
-use Rattle.sound.proofs.Tested.{Limits, limits}
-use Rattle.sound.proofs.Down.{isOwn, down-test, tested-later, tested-run, tested-fits}
+use Rattle.memory.specs.Forms.{Limits, added, downTest, logTest, walkOf}
+use Rattle.memory.proofs.Same.{bytes-in}
+use Rattle.memory.proofs.Tested.{limits, length-checkpoint, length-log}
+use Rattle.memory.proofs.Down.{isOwn, down-test, tested-later, tested-run, tested-fits}
+use Rattle.server.specs.Forms.{Suited, recoveredBytes}
 
 -- ---- the bytes
 
@@ -133,7 +134,7 @@ module _ (own : ServerId) (c b : List Record) (low : own .0 < servers) (mine : e
           )
 
 -- ---- what is known of an image that suits
-module _ (n : ℕ) (own : ServerId) (image : List ℕ) (s : suits n own image ≡ true) where
+module _ (n : ℕ) (own : ServerId) (history image : List ℕ) (s : Suited n own history image) where
   abbrev c : List Record
   c = checkpoint image
 
@@ -148,33 +149,25 @@ module _ (n : ℕ) (own : ServerId) (image : List ℕ) (s : suits n own image �
 
   pub suited : Limits n own image
   unfolding suits
-  suited = limits n own image (both (headerOk n own image) _ s .0)
+  suited = limits n own image (s .image) (both (headerOk n own image) _ (s .suits) .0)
 
   tested : downTest n own c l ≡ true
   unfolding suits
-  tested = sym (down-test n own c l (suited .low)) ∙ both (headerOk n own image) _ s .1
-
-  kept : length c ≡ cc
-  unfolding checkpoint
-  kept = length-records cc (checkpointArea image)
-
-  logged : length l ≡ lc
-  unfolding log
-  logged = length-records lc (logArea image)
+  tested = sym (down-test n own c l (suited .low)) ∙ both (headerOk n own image) _ (s .suits) .1
 
   -- the walk's counts are the checkpoint's
-  pub suited-counts : walkOf n (records (checkpointCount image) (checkpointArea image)) .counts ≡ tally (checkpoint image)
-  unfolding downTest walkOf checkpoint
+  pub suited-counts : walkOf n (checkpoint image) .counts ≡ tally (checkpoint image)
+  unfolding downTest walkOf
   suited-counts =
       let e = both (every (wellFormed n) c && inTurn c) (logTest n own c l) tested .0 in
       rw e
 
   module _ (t : ℕ) (e : added own (checkpoint image) (log image) ≡ t) where
     pub suited-fits : t ≤ logCount image
-    suited-fits = omega (arith, tested-fits n own c l (suited .low) tested .0, logged)
+    suited-fits = omega (arith, tested-fits n own c l (suited .low) tested .0, length-log image)
 
     pub suited-few : checkpointCount image + t ≤ historyMost
-    suited-few = omega (arith, tested-fits n own c l (suited .low) tested .1, kept)
+    suited-few = omega (arith, tested-fits n own c l (suited .low) tested .1, length-checkpoint image)
 
     abbrev new : List Record
     new = records t (drop (logPlace (lc - t)) image)
@@ -206,7 +199,7 @@ module _ (n : ℕ) (own : ServerId) (image : List ℕ) (s : suits n own image �
 
     recovered-many : length (recovered own c l) ≡ cc + t
     recovered-many =
-        ap length recovered-made ∙ length-append c new ∙ rw (kept, length-records t (drop (logPlace (lc - t)) image))
+        ap length recovered-made ∙ length-append c new ∙ rw (length-checkpoint image, length-records t (drop (logPlace (lc - t)) image))
 
     state-made :
         recoveredState n own c l ≡ noting 0 noReads t (holding (cc + t) (raised (tally c) own (countOf own c + t)) (blank true n own))
@@ -217,14 +210,14 @@ module _ (n : ℕ) (own : ServerId) (image : List ℕ) (s : suits n own image �
         omega (arith, r, at-tally c own (suited .low)) in
         rw (vector-made, recovered-many, w)
 
-    module _ (history : List ℕ) (long : imageSize ≤ length image) (below : AllBelow 256 image) where
+    module _ (below : AllBelow 256 image) where
       bytes-made : recordBytes (c ++ new) ≡ take (recordSize * cc) (checkpointArea image) ++ take (recordSize * t) (drop (logPlace (lc - t)) image)
       unfolding recordBytes checkpoint
       bytes-made =
           let short : recordSize * cc ≤ length (checkpointArea image) =
-          rw (length-drop checkpointAt image) (omega (arith, suited .kept)) in
+          rw (length-drop checkpointAt image) (omega (arith, s .image, suited .image .kept)) in
           let shorter : recordSize * t ≤ length (drop (logPlace (lc - t)) image) =
-          rw (length-drop (logPlace (lc - t)) image) (omega (arith, suited .logged, suited-fits)) in
+          rw (length-drop (logPlace (lc - t)) image) (omega (arith, s .image, suited .image .logged, suited-fits)) in
           flatMap-append encode c new
           ∙ ap (λ (x : List ℕ). x ++ recordBytes new) (bytes-in cc (checkpointArea image) short (below-drop checkpointAt image below))
           ∙ ap (λ (x : List ℕ). take (recordSize * cc) (checkpointArea image) ++ x)
@@ -233,10 +226,7 @@ module _ (n : ℕ) (own : ServerId) (image : List ℕ) (s : suits n own image �
       pub recover-made :
           memory
           (noting 0 noReads t (holding (checkpointCount image + t) (raised (tally (checkpoint image)) own (countOf own (checkpoint image) + t)) (blank true n own)))
-          (take (recordSize * checkpointCount image) (checkpointArea image)
-          ++ take (recordSize * t) (drop (logPlace (logCount image - t)) image)
-          ++ replicate (historySize - recordSize * (checkpointCount image + t)) 0
-          ++ drop historySize history)
+          (recoveredBytes (record { checkpoint = checkpointCount image; log = logCount image }) t image history)
           image ≡ recover (memory (blank false n own) history image)
       unfolding recover recoveredHistory
       recover-made = rw (state-made, recovered-many, recovered-made, bytes-made)

@@ -1,6 +1,6 @@
 -- Laws of a message's writes in turn: one that is skipped, refused or appended, and the end.
 -- Assumes nothing.
-use Prim.Native.Nat.{ℕ, suc, _+_, _*_, _≤_, _<_, max}
+use Prim.Native.Nat.{ℕ, suc, _+_, _-_, _*_, _≤_, _<_, max}
 use mathlib.Core.Bool.{Bool, true, false, cond}
 use mathlib.Core.List.{List, [], _∷_, flatMap}
 use mathlib.Core.Option.{Option, none, some, Option·some-ne-none}
@@ -26,9 +26,9 @@ use Rattle.rules.specs.declared.answer.Refusal.the-variants.{Gap, OwnAhead}
 use Rattle.rules.specs.Step.{Turn, skipped, appended, refuses, atTurn, vectorAfter, Taken, andThen, taken}
 use Rattle.laws.proofs.Lists.{every-drop, every-weaker}
 use Rattle.laws.proofs.Sound.{formed-origin}
-use Rattle.server.specs.Take.{originOk, Seen, seen, ahead}
-use Rattle.sound.proofs.Walks.{this, origin, origin-at}
-use Rattle.sound.proofs.Runs.{next-record, part-size}
+use Rattle.server.specs.Forms.{originOk, Listed, Seen, seen, ahead}
+use Rattle.memory.proofs.Walks.{this, origin, origin-at, lent-part}
+use Rattle.memory.proofs.Runs.{next-record, part-size}
 
 -- records well formed for some of the eight have origins of the eight
 pub formed-origins : (n : ℕ) (rs : List Record) → n ≤ servers → every (wellFormed n) rs ≡ true → every originOk rs ≡ true
@@ -89,12 +89,19 @@ pub none-taken :
 none-taken b count own v = rw zero-add
 
 module _ (b : List ℕ) (count k : ℕ) where
-  pub origin-listed : every originOk (records count b) ≡ true → k < count → origin 0 count b k < servers
-  unfolding every
-  origin-listed w h =
-      let r = this 0 count b k in
-      let e = rw (next-record 0 (r .origin) b count k h) at (every-drop originOk k (records count b) w) in
-      omega (arith, ltb-true (r .origin .0) servers (both (originOk r) _ e .0), origin-at 0 count b k)
+  module _ (w : Listed b count) (h : k < count) where
+    pub listed-origin : origin 0 count b k < servers
+    unfolding every
+    listed-origin =
+        let r = this 0 count b k in
+        let e = rw (next-record 0 (r .origin) b count k h) at (every-drop originOk k (records count b) (w .origins)) in
+        omega (arith, ltb-true (r .origin .0) servers (both (originOk r) _ e .0), origin-at 0 count b k)
+
+    -- the record as it is lent has a number
+    pub listed-part :
+        let part = take (recordSize * k + recordSize - recordSize * k) (drop (recordSize * k) b) in
+        (recordSize ≤ length part) × (getD part 0 0 < servers)
+    listed-part = lent-part b count k (w .long) h listed-origin
 
   module _ (v : Vector) where
     abbrev r : Record

@@ -1,2 +1,2 @@
 -- The files of definitions.
-pub mod Take
+pub mod Forms

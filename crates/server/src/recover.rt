@@ -1,26 +1,23 @@
 // Recovery from an image that suits the server: the checkpoint, then the log's records that it lacks.
 ghost use mathlib.Core.Path.{_≡_};
 ghost use mathlib.Core.Bool.{true, false};
-ghost use mathlib.Core.List.{_++_};
-ghost use Prim.Native.Nat.{_+_, _-_, _*_, _≤_};
-ghost use lib.ListN.{length, take, drop, replicate};
-ghost use Rattle.notes.specs.Record.{recordSize};
-ghost use Rattle.notes.specs.Message.{historyMost};
-ghost use Rattle.rules.specs.Image.{historySize, imageSize, logMost, checkpointArea, logPlace};
 ghost use Rattle.rules.specs.Memory.{memory, blank as blankOf, holding, noting, noReads};
-ghost use Rattle.rules.specs.Sound.{recover as recoverOf, suits};
+ghost use Rattle.rules.specs.Sound.{recover as recoverOf};
+ghost use Rattle.server.specs.Forms.{Suited, Recoverable, recoveredBytes};
+use memory::image;
+use memory::image::Image;
+use memory::raw;
+use memory::state;
 use notes::index::ServerId;
+use notes::number;
 use notes::record::Record;
 use notes::vector::Vector;
 use rules::state::State;
-use sound::image::Image;
-use sound::raw;
-use sound::state;
 
 // The history's bytes: those of the checkpoint's records, of the log's last ones, and zeros.
 fn put_recovered(history: &mut [u8], image: &[u8], counts: Image, added: usize)
-    requires { ⌜ (historySize ≤ length (now history)) × (imageSize ≤ length (now image)) × (counts .checkpoint + added ≤ historyMost) × (added ≤ counts .log) × (counts .log ≤ logMost) ⌝ }
-    ensures { λ _. ⌜ now (history .exit) ≡ take (recordSize * counts .checkpoint) (checkpointArea (now (image .entry))) ++ take (recordSize * added) (drop (logPlace (counts .log - added)) (now (image .entry))) ++ replicate (historySize - recordSize * (counts .checkpoint + added)) 0 ++ drop historySize (now (history .entry)) ⌝ }
+    requires { ⌜ Recoverable counts added (now history) (now image) ⌝ }
+    ensures { λ _. ⌜ now (history .exit) ≡ recoveredBytes counts added (now (image .entry)) (now (history .entry)) ⌝ }
 {
     let kept = Record::LEN * counts.checkpoint;
     let lacked = Record::LEN * added;
@@ -46,14 +43,14 @@ fn woken(n: u8, own: ServerId, held: u16, vector: Vector, added: u16) -> State
 
 // The image is known to suit: the walk counts the checkpoint's records, and the log's last number says how many it lacks.
 pub(crate) fn recover(history: &mut [u8], image: &[u8], n: u8, own: ServerId) -> State
-    requires { ⌜ (historySize ≤ length (now history)) × (imageSize ≤ length (now image)) × (suits n own (now image) ≡ true) ⌝ }
+    requires { ⌜ Suited n own (now history) (now image) ⌝ }
     ensures { λ r. ⌜ memory r (now (history .exit)) (now (image .entry)) ≡ recoverOf (memory (blankOf false n own) (now (history .entry)) (now (image .entry))) ⌝ }
 {
-    let counts = raw::counts(image);
+    let counts = image::raw::counts(image);
     let found = raw::walk(&image[Image::CHECKPOINT_AT..], counts.checkpoint, n);
     let tally = found.counts;
     let kept = tally.at(own);
-    let added = raw::past(raw::newest(image, counts.log, own), kept);
+    let added = number::past(image::raw::newest(image, own), kept);
     let held = (counts.checkpoint + added) as u16;
     put_recovered(history, image, counts, added);
     woken(

@@ -13,6 +13,7 @@ use rules::event::Event;
 use rules::event::What;
 use rules::state::State;
 
+// One event at a server: what it answers, and what it leaves in state, history and image.
 pub fn step(
     s: State,
     e: Event,

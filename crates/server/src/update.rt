@@ -6,10 +6,12 @@ ghost use Rattle.notes.specs.Message.{historyMost};
 ghost use Rattle.notes.specs.Reply.{first};
 ghost use Rattle.rules.specs.Memory.{memory, holding};
 ghost use Rattle.rules.specs.Answer.{effectOf};
-ghost use Rattle.rules.specs.Step.{suitable as suitableOf, update as updateOf};
-ghost use Rattle.sound.specs.Tests.{headRefusal};
-ghost use Rattle.server.specs.Take.{arrivalRefusals};
+ghost use Rattle.rules.specs.Step.{suitable as suitableOf, arrivalRefusals, update as updateOf};
+ghost use Rattle.rules.specs.Answer.{verdictRefusal};
+use crate::here;
 use crate::take;
+use memory::head;
+use memory::state;
 use notes::index::ServerId;
 use notes::message;
 use notes::message::Checked;
@@ -18,10 +20,8 @@ use notes::record::Record;
 use notes::vector::Vector;
 use rules::answer::Outcome;
 use rules::answer::Refusal;
+use rules::answer::Verdict;
 use rules::state::State;
-use sound::head;
-use sound::head::Head;
-use sound::state;
 
 // The message is right, of the server's own N, and from another server.
 fn suitable(s: State, message: &[u8]) -> bool
@@ -39,20 +39,17 @@ fn suitable(s: State, message: &[u8]) -> bool
 }
 
 // What a message is refused for before its writes are looked at.
-fn arrival(s: State, at: ServerId, message: &[u8], history: &[u8], image: &[u8]) -> Head
-    ensures { λ r. ⌜ headRefusal r ≡ first (arrivalRefusals (memory s (now (history .entry)) (now (image .entry))) at (now (message .entry))) ⌝ }
+fn arrival(s: State, at: ServerId, message: &[u8], history: &[u8], image: &[u8]) -> Verdict
+    ensures { λ r. ⌜ verdictRefusal r ≡ first (arrivalRefusals (memory s (now (history .entry)) (now (image .entry))) at (now (message .entry))) ⌝ }
 {
-    if let Head::Refused(k) = head::up_head(s, history, image) {
-        return Head::Refused(k);
-    }
-    let own = s.own;
-    if at.0 != own.0 {
-        return Head::Refused(Refusal::OutOfRange);
+    let told = head::up_head(s, history, image);
+    if let Verdict::Refused(k) = here::or_elsewhere(told, s, at) {
+        return Verdict::Refused(k);
     }
     if !suitable(s, message) {
-        return Head::Refused(Refusal::Unsound);
+        return Verdict::Refused(Refusal::Unsound);
     }
-    Head::Passed
+    Verdict::Passed
 }
 
 fn taken(s: State, new: usize, vector: Vector) -> State
@@ -74,13 +71,13 @@ pub(crate) fn update(
 ) -> Outcome
     ensures { λ r. ⌜ effectOf r (now (history .exit)) (now (image .entry)) ≡ updateOf (memory s (now (history .entry)) (now (image .entry))) at (now (message .entry)) ⌝ }
 {
-    if let Head::Refused(k) = arrival(s, at, message, history, image) {
+    if let Verdict::Refused(k) = arrival(s, at, message, history, image) {
         return state::refused(k, s);
     }
     let count = (message.len() - Header::LEN) / Record::LEN;
     let found = take::in_turn(&message[Header::LEN..], count, s.own, s.vector);
     let refusal = found.refusal;
-    if let Head::Refused(k) = refusal {
+    if let Verdict::Refused(k) = refusal {
         return state::refused(k, s);
     }
     let held = s.held as usize;

@@ -11,14 +11,13 @@ use lib.ListN.{length, take, drop, length-take, length-drop}
 use lib.Seq.{take-at, drop-at, drop-drop, take-add}
 use Rattle.notes.specs.Bytes.{field, fromBytes, toBytes, pieces}
 use Rattle.notes.specs.Index.{servers, phones}
-use Rattle.notes.specs.Vector.{vector, countSize, vectorFrom, vectorBytes}
+use Rattle.notes.specs.Vector.{vector, countSize, countsIn, countBytes, vectorFrom, vectorBytes}
 use Rattle.notes.specs.declared.vector.Vector.{Vector}
 use Rattle.notes.proofs.Lists.{both, part-join, parts-join}
 use Rattle.notes.proofs.Numbers.{AllBelow, below-take, below-drop, one-byte, from-to, to-from, length-toBytes, part-back, byte-join}
-use Rattle.notes.proofs.Vectors.{length-vectorBytes, length-vectorFrom}
+use Rattle.notes.proofs.Vectors.{length-countsIn, length-vectorBytes, length-vectorFrom}
 use Rattle.rules.specs.declared.state.State.{State}
 use Rattle.ssaldorip.specs.Calls.{blockSize, upField, spareField, vectorAt, crField, rwAt, blockOk, stateIn, stateOf, blockOf, onto}
-use Rattle.ssaldorip.proofs.Words.{words, length-words}
 use Rattle.ssaldorip.proofs.Stored.{length-blockOf}
 
 -- each number fits its bytes
@@ -34,7 +33,7 @@ pub record FitsBlock (s : State) : Type 0 where
   pub rw : AllBelow 65536 (s .rw .counts)
 
 -- ---- counts and their bytes, with more bytes behind them
-counts-back : (l r : List ℕ) → AllBelow 65536 l → words (length l) (flatMap (toBytes countSize) l ++ r) ≡ l
+counts-back : (l r : List ℕ) → AllBelow 65536 l → countsIn (length l) (countBytes l ++ r) ≡ l
 unfolding pieces flatMap toBytes
 counts-back [] r h = refl
 counts-back (x ∷ l) r h = rw (from-to countSize x (h 0), counts-back l r (λ i. h (suc i)))
@@ -42,9 +41,9 @@ counts-back (x ∷ l) r h = rw (from-to countSize x (h 0), counts-back l r (λ i
 vector-back : (v : Vector) (r : List ℕ) → length (v .counts) ≡ servers → AllBelow 65536 (v .counts) → vectorFrom (vectorBytes v ++ r) ≡ v
 unfolding vectorFrom vectorBytes
 vector-back v r l h =
-    ap vector (ap (λ (k : ℕ). words k (vectorBytes v ++ r)) (sym l) ∙ counts-back (v .counts) r h)
+    ap vector (ap (λ (k : ℕ). countsIn k (vectorBytes v ++ r)) (sym l) ∙ counts-back (v .counts) r h)
 
-counts-again : (k : ℕ) (b : List ℕ) → countSize * k ≤ length b → AllBelow 256 b → flatMap (toBytes countSize) (words k b) ≡ take (countSize * k) b
+counts-again : (k : ℕ) (b : List ℕ) → countSize * k ≤ length b → AllBelow 256 b → countBytes (countsIn k b) ≡ take (countSize * k) b
 unfolding pieces flatMap
 counts-again zero b l h = refl
 counts-again (suc k) b l h =
@@ -74,7 +73,7 @@ module _ (s : State) (r : List ℕ) (h : FitsBlock s) where
 
   -- what stands behind CR
   after-cr : List ℕ
-  after-cr = flatMap (toBytes countSize) (s .rw .counts) ++ r
+  after-cr = countBytes (s .rw .counts) ++ r
 
   from-vector : drop vectorAt (blockOf s ++ r) ≡ vectorBytes (s .vector) ++ (toBytes (crField .size) (s .cr) ++ after-cr)
   unfolding blockOf toBytes after-cr
@@ -95,7 +94,7 @@ module _ (s : State) (r : List ℕ) (h : FitsBlock s) where
       rw (from-cr, take-at (toBytes (crField .size) (s .cr)) after-cr (crField .size) (length-toBytes (crField .size) (s .cr)))
       (from-to (crField .size) (s .cr) (h .cr))
 
-  rw-back : words phones (drop rwAt (blockOf s ++ r)) ≡ s .rw .counts
+  rw-back : countsIn phones (drop rwAt (blockOf s ++ r)) ≡ s .rw .counts
   unfolding after-cr
   rw-back = rw (from-rw, ← h .sixty-four) (counts-back (s .rw .counts) r (h .rw))
 
@@ -146,7 +145,7 @@ module _ (b : List ℕ) (h : AllBelow 256 b) (room : blockSize ≤ length b) (ok
   unfolding vectorBytes vectorFrom
   vector-again = counts-again servers (drop vectorAt b) (simp length-drop (omega arith)) (below-drop vectorAt b h)
 
-  rw-again : flatMap (toBytes countSize) (words phones (drop rwAt b)) ≡ take (countSize * phones) (drop rwAt b)
+  rw-again : countBytes (countsIn phones (drop rwAt b)) ≡ take (countSize * phones) (drop rwAt b)
   rw-again = counts-again phones (drop rwAt b) (simp length-drop (omega arith)) (below-drop rwAt b h)
 
   in-again : blockOf (stateIn b) ++ drop blockSize b ≡ b
@@ -170,4 +169,4 @@ module _ (b : List ℕ) (h : AllBelow 256 b) (room : blockSize ≤ length b) (ok
 
   pub block-again : onto (blockOf (stateOf b)) b ≡ b
   unfolding stateOf stateIn
-  block-again = rw (ok, length-blockOf (stateIn b) (length-vectorFrom (drop vectorAt b)) (length-words phones (drop rwAt b))) in-again
+  block-again = rw (ok, length-blockOf (stateIn b) (length-vectorFrom (drop vectorAt b)) (length-countsIn phones (drop rwAt b))) in-again

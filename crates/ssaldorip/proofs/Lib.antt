@@ -1,5 +1,4 @@
 -- The files of laws and theorems, beside the proofs of functions.
-pub mod Words
 pub mod Stored
 pub mod Back
 pub mod Called

@@ -9,10 +9,10 @@ use Rattle.notes.proofs.Lists.{sets-front}
 use Rattle.rules.specs.declared.answer.Status.{Status}
 use Rattle.rules.specs.declared.answer.Status.the-variants.{Nobody, Phones, Refused}
 use Rattle.rules.specs.Answer.{refusalNumber, statusReply}
-use Rattle.rules.specs.Calls.{status}
+use Rattle.rules.specs.Calls.{judge, status}
 use Rattle.rules.specs.Memory.{Memory}
 use Rattle.laws.proofs.Outcomes.{refusal-number}
-use Rattle.ssaldorip.specs.Calls.{blockSize, Lent, left, put, fills, statusIn, memoryOf}
+use Rattle.ssaldorip.specs.Calls.{blockSize, Lent, left, put, fills, statusIn, judging, memoryOf}
 
 module _ (f : Memory → List ℕ → ℕ × List ℕ) (l : Lent) where
   pub fills-short : length (l .state) < blockSize → left 9 (l .reply) ≡ fills f l
@@ -22,6 +22,15 @@ module _ (f : Memory → List ℕ → ℕ × List ℕ) (l : Lent) where
   pub fills-done : blockSize ≤ length (l .state) → f (memoryOf l) (l .reply) ≡ fills f l
   unfolding fills
   fills-done h = rw (le-ltb (length (l .state)) blockSize h)
+
+module _ (l : Lent) where
+  pub judging-short : length (l .state) < blockSize → 9 ≡ judging l
+  unfolding judging
+  judging-short h = rw (lt-ltb (length (l .state)) blockSize h)
+
+  pub judging-done : blockSize ≤ length (l .state) → judge (memoryOf l) .number ≡ judging l
+  unfolding judging
+  judging-done h = rw (le-ltb (length (l .state)) blockSize h)
 
 -- ---- two bytes of an output
 module _ (x y : ℕ) (out : List ℕ) where

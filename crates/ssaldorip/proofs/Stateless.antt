@@ -21,8 +21,8 @@ use Rattle.notes.proofs.Sessions.{read-eight}
 use Rattle.rules.specs.declared.answer.Refusal.{Refusal}
 use Rattle.rules.specs.Image.{imageSize, checkpointAt, checkpointCount, logCount, checkpointPlace, logPlace, checkpointArea, logArea, checkpoint, log}
 use Rattle.rules.specs.Calls.{placeOf, standsAt, lookUpRefusal, replyUnless}
-use Rattle.reports.specs.LookUp.{placeReply}
-use Rattle.reports.proofs.LookUp.{Accepted, accepted, place-among}
+use Rattle.calls.specs.Place.{placeReply}
+use Rattle.calls.proofs.LookUp.{Accepted, accepted, place-among}
 use Rattle.ssaldorip.specs.Calls.{vectorSize, left, placeOrNumber, next, sessionIn, raise}
 
 -- ---- a look-up

@@ -6,11 +6,13 @@ use mathlib.Core.Path.{_≡_, sym, ap, _∙_}
 use denote.Ref.{now}
 use Rattle.notes.proofs.Unique.{One}
 use Rattle.ssaldorip.specs.Calls.{Called, called, lent}
-use Rattle.ssaldorip.proofs.messages.ssaldorip_look_up.Reads as look-up
+use Rattle.ssaldorip.proofs.beside.ssaldorip_look_up.Reads as look-up
 use Rattle.ssaldorip.proofs.messages.ssaldorip_message_check.Reads as message-check
 use Rattle.ssaldorip.proofs.messages.ssaldorip_message_write.Reads as message-write
+use Rattle.ssaldorip.proofs.messages.ssaldorip_message_first.Reads as message-first
 use Rattle.ssaldorip.proofs.messages.ssaldorip_message_next.Reads as message-next
 use Rattle.ssaldorip.proofs.messages.ssaldorip_session_raise.Reads as session-raise
+use Rattle.ssaldorip.proofs.beside.ssaldorip_judge.Reads as judge
 use Rattle.ssaldorip.proofs.beside.ssaldorip_start.Reads as start
 use Rattle.ssaldorip.proofs.beside.ssaldorip_status.Reads as status
 use Rattle.ssaldorip.proofs.beside.ssaldorip_message.Reads as message
@@ -21,32 +23,42 @@ use Rattle.ssaldorip.proofs.steps.ssaldorip_cut.Reads as cut
 use Rattle.ssaldorip.proofs.steps.ssaldorip_recover.Reads as recover
 use Rattle.ssaldorip.proofs.steps.ssaldorip_read_cut.Reads as read-cut
 use Rattle.ssaldorip.proofs.steps.ssaldorip_write_cut.Reads as write-cut
+use Rattle.ssaldorip.proofs.version.ssaldorip_version.Reads as version
 
--- ---- calls without a state
-pub look-ups : One look-up.Post (λ k r s. r)
-look-ups k a x y s t p q = p ∙ sym q
+-- ---- calls that only answer
+pub ssaldorip-version-one : One version.Post (λ k r s. r)
+ssaldorip-version-one k a x y s t p q = p ∙ sym q
 
-pub checks : One message-check.Post (λ k r s. r)
-checks k a x y s t p q = p ∙ sym q
+pub ssaldorip-judge-one : One judge.Post (λ k r s. r)
+ssaldorip-judge-one k a x y s t p q = p ∙ sym q
+
+pub ssaldorip-look-up-one : One look-up.Post (λ k r s. r)
+ssaldorip-look-up-one k a x y s t p q = p ∙ sym q
+
+pub ssaldorip-message-check-one : One message-check.Post (λ k r s. r)
+ssaldorip-message-check-one k a x y s t p q = p ∙ sym q
 
 -- with each byte of the output
-pub written : One {O = ℕ × List ℕ} message-write.Post (λ k r s. (r, now (s .1 .1 .1 .0)))
-written k a x y s t p q = p ∙ sym q
+pub ssaldorip-message-write-one : One {O = ℕ × List ℕ} message-write.Post (λ k r s. (r, now (s .1 .1 .1 .0)))
+ssaldorip-message-write-one k a x y s t p q = p ∙ sym q
+
+pub ssaldorip-message-first-one : One message-first.Post (λ k r s. r)
+ssaldorip-message-first-one k a x y s t p q = p ∙ sym q
 
 -- with each byte of the record
-pub nexts : One {O = ℕ × List ℕ} message-next.Post (λ k r s. (r, now (s .1 .1 .0)))
-nexts k a x y s t p q = p ∙ sym q
+pub ssaldorip-message-next-one : One {O = ℕ × List ℕ} message-next.Post (λ k r s. (r, now (s .1 .1 .0)))
+ssaldorip-message-next-one k a x y s t p q = p ∙ sym q
 
 -- with each byte of the session
-pub raises : One {O = ℕ × List ℕ} session-raise.Post (λ k r s. (r, now (s .0)))
-raises k a x y s t p q = p ∙ sym q
+pub ssaldorip-session-raise-one : One {O = ℕ × List ℕ} session-raise.Post (λ k r s. (r, now (s .0)))
+ssaldorip-session-raise-one k a x y s t p q = p ∙ sym q
 
 -- ---- reports: with each byte of the output
-pub statuses : One {O = ℕ × List ℕ} status.Post (λ k r s. (r, now (s .1 .1 .1 .0)))
-statuses k a x y s t p q = p ∙ sym q
+pub ssaldorip-status-one : One {O = ℕ × List ℕ} status.Post (λ k r s. (r, now (s .1 .1 .1 .0)))
+ssaldorip-status-one k a x y s t p q = p ∙ sym q
 
-pub messages : One {O = ℕ × List ℕ} message.Post (λ k r s. (r, now (s .1 .1 .1 .0)))
-messages k a x y s t p q = p ∙ sym q
+pub ssaldorip-message-one : One {O = ℕ × List ℕ} message.Post (λ k r s. (r, now (s .1 .1 .1 .0)))
+ssaldorip-message-one k a x y s t p q = p ∙ sym q
 
 -- ---- steps: with each byte of state, history and image
 
@@ -59,27 +71,27 @@ seen c = (c .number, c .lent .state, c .lent .history, c .lent .image)
 equal : {x y d : Called} → x ≡ d → y ≡ d → seen x ≡ seen y
 equal p q = ap seen (p ∙ sym q)
 
-pub starts : One {O = Seen} start.Post (λ k r s. (r, now (s .1 .1 .0), now (s .1 .1 .1 .0), now (s .1 .1 .1 .1 .0)))
-starts k a x y s t p q = equal p q
+pub ssaldorip-start-one : One {O = Seen} start.Post (λ k r s. (r, now (s .1 .1 .0), now (s .1 .1 .1 .0), now (s .1 .1 .1 .1 .0)))
+ssaldorip-start-one k a x y s t p q = equal p q
 
-pub updates : One {O = Seen} update.Post (λ k r s. (r, now (s .0), now (s .1 .0), now (s .1 .1 .0)))
-updates k a x y s t p q = equal p q
+pub ssaldorip-update-one : One {O = Seen} update.Post (λ k r s. (r, now (s .0), now (s .1 .0), now (s .1 .1 .0)))
+ssaldorip-update-one k a x y s t p q = equal p q
 
-pub cuts : One {O = Seen} cut.Post (λ k r s. (r, now (s .0), now (s .1 .0), now (s .1 .1 .0)))
-cuts k a x y s t p q = equal p q
+pub ssaldorip-cut-one : One {O = Seen} cut.Post (λ k r s. (r, now (s .0), now (s .1 .0), now (s .1 .1 .0)))
+ssaldorip-cut-one k a x y s t p q = equal p q
 
-pub recoveries : One {O = Seen} recover.Post (λ k r s. (r, now (s .0), now (s .1 .0), now (s .1 .1 .0)))
-recoveries k a x y s t p q = equal p q
+pub ssaldorip-recover-one : One {O = Seen} recover.Post (λ k r s. (r, now (s .0), now (s .1 .0), now (s .1 .1 .0)))
+ssaldorip-recover-one k a x y s t p q = equal p q
 
-pub reads-cut : One {O = Seen} read-cut.Post (λ k r s. (r, now (s .0), now (s .1 .0), now (s .1 .1 .0)))
-reads-cut k a x y s t p q = equal p q
+pub ssaldorip-read-cut-one : One {O = Seen} read-cut.Post (λ k r s. (r, now (s .0), now (s .1 .0), now (s .1 .1 .0)))
+ssaldorip-read-cut-one k a x y s t p q = equal p q
 
-pub writes-cut : One {O = Seen} write-cut.Post (λ k r s. (r, now (s .0), now (s .1 .0), now (s .1 .1 .0)))
-writes-cut k a x y s t p q = equal p q
+pub ssaldorip-write-cut-one : One {O = Seen} write-cut.Post (λ k r s. (r, now (s .0), now (s .1 .0), now (s .1 .1 .0)))
+ssaldorip-write-cut-one k a x y s t p q = equal p q
 
 -- ---- with each byte of the reply too: the whole of what is called
-pub reads : One {O = Called} read.Post (λ k r s. called r (lent (now (s .0)) (now (s .1 .0)) (now (s .1 .1 .0)) (now (s .1 .1 .1 .1 .1 .1 .1 .0))))
-reads k a x y s t p q = p ∙ sym q
+pub ssaldorip-read-one : One {O = Called} read.Post (λ k r s. called r (lent (now (s .0)) (now (s .1 .0)) (now (s .1 .1 .0)) (now (s .1 .1 .1 .1 .1 .1 .1 .0))))
+ssaldorip-read-one k a x y s t p q = p ∙ sym q
 
-pub writes : One {O = Called} write.Post (λ k r s. called r (lent (now (s .0)) (now (s .1 .0)) (now (s .1 .1 .0)) (now (s .1 .1 .1 .1 .1 .1 .1 .1 .1 .0))))
-writes k a x y s t p q = p ∙ sym q
+pub ssaldorip-write-one : One {O = Called} write.Post (λ k r s. called r (lent (now (s .0)) (now (s .1 .0)) (now (s .1 .1 .0)) (now (s .1 .1 .1 .1 .1 .1 .1 .1 .1 .0))))
+ssaldorip-write-one k a x y s t p q = p ∙ sym q

@@ -1,14 +1,14 @@
--- The boundary: a state as a block of 160 bytes, and the calls on numbers and bytes.
+-- The boundary: its version, a state as a block of 160 bytes, and the calls on numbers and bytes.
 -- Assumes nothing.
 use Prim.Native.Nat.{ℕ, _+_, _*_}
 use mathlib.Core.Bool.{Bool, false, _&&_, cond, _||_}
-use mathlib.Core.List.{List, _∷_, _++_, map, flatMap, []}
+use mathlib.Core.List.{List, _∷_, _++_, []}
 use mathlib.Core.Option.{Option, none, some}
 use lib.Dec.{eqb, leb, ltb}
 use lib.ListN.{drop, length, getD, replicate}
-use Rattle.notes.specs.Bytes.{Field, field, fromBytes, toBytes, pieces}
+use Rattle.notes.specs.Bytes.{Field, field, toBytes}
 use Rattle.notes.specs.Index.{phones, servers}
-use Rattle.notes.specs.Vector.{vectorFrom, vectorBytes, countSize}
+use Rattle.notes.specs.Vector.{countSize, countsIn, countBytes, vectorFrom, vectorBytes}
 use Rattle.notes.specs.declared.vector.Vector.{Vector}
 use Rattle.notes.specs.Record.{recordSize, encode}
 use Rattle.notes.specs.Message.{readAt, placeAfter}
@@ -23,7 +23,11 @@ use Rattle.rules.specs.Answer.{Effect, refusalNumber}
 use Rattle.rules.specs.declared.answer.Refusal.{Refusal}
 use Rattle.rules.specs.Step.{step}
 use Rattle.rules.specs.declared.event.What.{What}
-use Rattle.rules.specs.Calls.{status, message}
+use Rattle.rules.specs.Calls.{judge, status, message}
+
+-- it grows whenever a signature, a size or what a call returns changes
+abbrev pub version : ℕ
+version = 1
 
 -- ---- a state in its block
 
@@ -64,7 +68,7 @@ stateIn b =
       held = field heldField b;
       vector = vectorFrom (drop vectorAt b);
       cr = field crField b;
-      rw = record { counts = map fromBytes (pieces 2 phones (drop rwAt b)) };
+      rw = record { counts = countsIn phones (drop rwAt b) };
       nwrites = field nwritesField b;
     }
 
@@ -82,7 +86,7 @@ blockOf s =
     ++ toBytes 2 (s .nwrites)
     ++ vectorBytes (s .vector)
     ++ toBytes 8 (s .cr)
-    ++ flatMap (toBytes 2) (s .rw .counts)
+    ++ countBytes (s .rw .counts)
 
 -- ---- a call
 
@@ -134,10 +138,7 @@ call vector size f bytes l =
 abbrev pub happening : ℕ → What → Vector → List ℕ → Memory → Effect
 happening j w v msg m = step m (record { server = server j; what = w }) v msg
 
-abbrev pub noReply : Effect → List ℕ
-noReply e = []
-
--- a read's reply: 1 and the value, or five zeros, then V; a write's: V
+-- a read's reply: 1 and the value, or five zeros, then V
 abbrev pub readBytes : Reply → Vector → List ℕ
 readBytes r v =
     cond (eqb (getD (r .values) 0 0) 1) (1 ∷ toBytes 4 (getD (r .values) 1 0)) (replicate 5 0) ++ vectorBytes v
@@ -145,12 +146,16 @@ readBytes r v =
 abbrev pub readReply : Effect → List ℕ
 readReply e = readBytes (e .reply) (e .vector)
 
-abbrev pub writtenReply : Effect → List ℕ
-writtenReply e = vectorBytes (e .vector)
+-- a write's: V
+abbrev pub writeReply : Effect → List ℕ
+writeReply e = vectorBytes (e .vector)
 
--- what is told where a reply has no room
-abbrev pub orShort : Effect → ℕ
-orShort e = cond (eqb (e .reply .number) 0) 9 (e .reply .number)
+-- nothing is replied but the number, and no vector is lent that could be too short
+abbrev pub noReply : Effect → List ℕ
+noReply e = []
+
+abbrev pub plainly : (Memory → Effect) → Lent → Called
+plainly f l = call vectorSize 0 f noReply l
 
 -- ---- the others
 
@@ -178,6 +183,10 @@ messageIn m out = answered (message m out)
 -- a call that changes an output only: 9 for a short state, first
 unfoldable pub fills : (Memory → List ℕ → ℕ × List ℕ) → Lent → ℕ × List ℕ
 fills f l = cond (ltb (length (l .state)) blockSize) (left 9 (l .reply)) (f (memoryOf l) (l .reply))
+
+-- a call that only answers: 9 for a short state, first
+unfoldable pub judging : Lent → ℕ
+judging l = cond (ltb (length (l .state)) blockSize) 9 (judge (memoryOf l) .number)
 
 -- 0 where the write is not there, the refusal's number, or the place of its record in the image
 unfoldable pub placeOrNumber : Option Refusal → Option ℕ → ℕ

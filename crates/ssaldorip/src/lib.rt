@@ -4,3 +4,4 @@ mod block;
 pub mod messages;
 pub mod serve;
 pub mod steps;
+pub mod version;

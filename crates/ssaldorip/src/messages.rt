@@ -1,46 +1,22 @@
-// The calls that need no state: a look-up in an image, update messages, and the phone's session.
+// The calls that need no server, for the phone app: update messages and the session.
 ghost use mathlib.Core.Path.{_≡_};
-ghost use Rattle.notes.specs.Message.{refusalNumber, check as checkOf, write as writeOf};
+ghost use Rattle.notes.specs.Message.{refusalNumber, check as checkOf, write as writeOf, firstPlace};
 ghost use Rattle.rules.specs.Writes.{server};
-ghost use Rattle.rules.specs.Calls.{standsAt, lookUpRefusal};
-ghost use Rattle.ssaldorip.specs.Calls.{left, answered, placeOrNumber, next, raise};
+ghost use Rattle.ssaldorip.specs.Calls.{left, answered, next, raise};
+use crate::steps::TOO_SHORT;
 use notes::index::ServerId;
 use notes::message;
 use notes::message::Checked;
 use notes::message::Refusal;
 use notes::message::Written;
-use notes::raw;
 use notes::reader;
 use notes::record::Record;
 use notes::session::Session;
 use notes::session::raised_by;
+use notes::vector;
 use notes::vector::Vector;
-use reports::look_up;
-use reports::look_up::Found;
-use sound::refusal;
 
-// The bytes of a vector.
-const VECTOR_LEN: usize = Vector::COUNT_LEN * Vector::LEN;
-
-fn wide(x: u8) -> u32
-    ensures { λ r. ⌜ r ≡ x ⌝ }
-{
-    x as u32
-}
-
-// Where in the image the write's record stands; 0 where it is not there, or the refusal's number, which no place is.
-#[no_mangle]
-pub extern "C" fn ssaldorip_look_up(image: &[u8], origin: u8, number: u32) -> u32
-    ensures { λ r. ⌜ r ≡ placeOrNumber (lookUpRefusal (now (image .entry)) (server origin)) (standsAt (now (image .entry)) (server origin) number) ⌝ }
-{
-    let found = look_up::stands_at(image, ServerId(origin), number);
-    match found {
-        Found::At(place) => place as u32,
-        Found::NotThere => 0,
-        Found::Refused(k) => wide(refusal::number(k)),
-    }
-}
-
+// A refusal of `notes` in document 01's numbers.
 fn number(k: Refusal) -> u32
     ensures { λ r. ⌜ r ≡ refusalNumber k ⌝ }
 {
@@ -75,14 +51,23 @@ pub extern "C" fn ssaldorip_message_write(n: u8, sender: u8, records: &[u8], out
     }
 }
 
-// The record at a place of a message, copied to the start of `out`: the place behind it, or 0 where no whole record is left, or
-// 9 where `out` is too short. No such place is 0 or 9.
+// The place of a message's first record, or the message's end where it is not right.
 #[no_mangle]
-pub extern "C" fn ssaldorip_message_next(message: &[u8], at: usize, out: &mut [u8]) -> usize
-    ensures { λ r. ⌜ left r (now (out .exit)) ≡ next (now (message .entry)) at (now (out .entry)) ⌝ }
+pub extern "C" fn ssaldorip_message_first(message: &[u8]) -> usize
+    ensures { λ r. ⌜ r ≡ firstPlace (now (message .entry)) ⌝ }
 {
-    if out.len() < Record::LEN {
-        return 9;
+    let mut code = 0u8;
+    reader::first_place(message, &mut code)
+}
+
+// The record at a place of a message, copied to the start of `record`: the place behind it, or 0 where no whole record is left, or
+// 9 where `record` is too short. No such place is 0 or 9.
+#[no_mangle]
+pub extern "C" fn ssaldorip_message_next(message: &[u8], at: usize, record: &mut [u8]) -> usize
+    ensures { λ r. ⌜ left r (now («record» .exit)) ≡ next (now (message .entry)) at (now («record» .entry)) ⌝ }
+{
+    if record.len() < Record::LEN {
+        return TOO_SHORT as usize;
     }
     let read = reader::record_from(message, at);
     if !read.found {
@@ -90,25 +75,25 @@ pub extern "C" fn ssaldorip_message_next(message: &[u8], at: usize, out: &mut [u
     }
     let write = read.write;
     let bytes = write.to_bytes();
-    bytes::copy(&bytes, out);
+    bytes::copy(&bytes, record);
     reader::place_after(message, at)
 }
 
 // The session in its bytes raised by a read's reply, there: 9 where one of the two is too short.
 #[no_mangle]
-pub extern "C" fn ssaldorip_session_raise(session: &mut [u8], reply: &[u8]) -> u32
-    ensures { λ r. ⌜ left r (now (session .exit)) ≡ raise (now (session .entry)) (now (reply .entry)) ⌝ }
+pub extern "C" fn ssaldorip_session_raise(session: &mut [u8], reply_vector: &[u8]) -> u32
+    ensures { λ r. ⌜ left r (now (session .exit)) ≡ raise (now (session .entry)) (now («reply_vector» .entry)) ⌝ }
 {
-    if session.len() < VECTOR_LEN {
-        return 9;
+    if session.len() < Vector::SIZE {
+        return TOO_SHORT;
     }
-    if reply.len() < VECTOR_LEN {
-        return 9;
+    if reply_vector.len() < Vector::SIZE {
+        return TOO_SHORT;
     }
     let before = Session {
-        reads: raw::vector_at(session, 0),
+        reads: vector::raw::vector_at(session, 0),
     };
-    let after = raised_by(before, raw::vector_at(reply, 0));
-    raw::put_vector(session, 0, after.reads);
+    let after = raised_by(before, vector::raw::vector_at(reply_vector, 0));
+    vector::raw::put_vector(session, 0, after.reads);
     0
 }

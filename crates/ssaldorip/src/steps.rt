@@ -1,4 +1,4 @@
-// The steps of a server: its state is a block, and a request's reply is bytes.
+// The steps of a server that reply nothing but their number: its state is a block.
 ghost use mathlib.Core.Path.{_≡_};
 ghost use mathlib.Core.Bool.{cond};
 ghost use mathlib.Core.List.{[]};
@@ -11,11 +11,12 @@ ghost use Rattle.rules.specs.Answer.{answerReply};
 ghost use Rattle.rules.specs.Memory.{phone as phoneOf};
 ghost use Rattle.rules.specs.declared.event.Request.the-variants.{Read, Write};
 ghost use Rattle.rules.specs.declared.event.What.the-variants as what;
-ghost use Rattle.ssaldorip.specs.Calls.{blockSize, blockOf, vectorSize, lent, called, onto, call, happening, noReply};
+ghost use Rattle.ssaldorip.specs.Calls.{blockSize, blockOf, lent, called, onto, call, happening, noReply, plainly};
 use crate::block;
+use memory::refusal;
 use notes::index::PhoneId;
 use notes::index::ServerId;
-use notes::raw;
+use notes::vector;
 use notes::vector::Vector;
 use rules::answer::Answer;
 use rules::answer::Outcome;
@@ -23,14 +24,11 @@ use rules::event::Event;
 use rules::event::Request;
 use rules::event::What;
 use server::step;
-use sound::refusal;
 
 // 9: a buffer too short.
 pub(crate) const TOO_SHORT: u32 = 9;
 
-// The bytes of a vector.
-pub(crate) const VECTOR: usize = Vector::COUNT_LEN * Vector::LEN;
-
+// The number of an answer, whatever vector stands beside it.
 pub(crate) fn number_of(a: Answer) -> u32
     ensures { λ r. ⌜ ((v : Vector) → r ≡ answerReply a v .number) ⌝ }
 {
@@ -67,7 +65,8 @@ fn stepped(
     asked: Vector,
     message: &[u8],
 ) -> u32
-    ensures { λ r. ⌜ called r (lent (now (state .exit)) (now (history .exit)) (now (image .exit)) []) ≡ call vectorSize 0 (happening server what asked (now (message .entry))) noReply (lent (now (state .entry)) (now (history .entry)) (now (image .entry)) []) ⌝ }
+    ensures { λ r. ⌜ called r (lent (now (state .exit)) (now (history .exit)) (now (image .exit)) [])
+        ≡ plainly (happening server what asked (now (message .entry))) (lent (now (state .entry)) (now (history .entry)) (now (image .entry)) []) ⌝ }
 {
     if state.len() < block::LEN {
         return TOO_SHORT;
@@ -81,6 +80,7 @@ fn stepped(
     settled(o, state)
 }
 
+// Takes another server's update: its new writes behind those held. Nothing is stored.
 #[no_mangle]
 pub extern "C" fn ssaldorip_update(
     state: &mut [u8],
@@ -89,7 +89,8 @@ pub extern "C" fn ssaldorip_update(
     server: u8,
     message: &[u8],
 ) -> u32
-    ensures { λ r. ⌜ called r (lent (now (state .exit)) (now (history .exit)) (now (image .exit)) []) ≡ call vectorSize 0 (happening server what.Update zeros (now (message .entry))) noReply (lent (now (state .entry)) (now (history .entry)) (now (image .entry)) []) ⌝ }
+    ensures { λ r. ⌜ called r (lent (now (state .exit)) (now (history .exit)) (now (image .exit)) [])
+        ≡ plainly (happening server what.Update zeros (now (message .entry))) (lent (now (state .entry)) (now (history .entry)) (now (image .entry)) []) ⌝ }
 {
     stepped(
         state,
@@ -102,6 +103,7 @@ pub extern "C" fn ssaldorip_update(
     )
 }
 
+// A plain cut: the state is down, and nothing is stored.
 #[no_mangle]
 pub extern "C" fn ssaldorip_cut(
     state: &mut [u8],
@@ -109,7 +111,8 @@ pub extern "C" fn ssaldorip_cut(
     image: &mut [u8],
     server: u8,
 ) -> u32
-    ensures { λ r. ⌜ called r (lent (now (state .exit)) (now (history .exit)) (now (image .exit)) []) ≡ call vectorSize 0 (happening server what.Cut zeros []) noReply (lent (now (state .entry)) (now (history .entry)) (now (image .entry)) []) ⌝ }
+    ensures { λ r. ⌜ called r (lent (now (state .exit)) (now (history .exit)) (now (image .exit)) [])
+        ≡ plainly (happening server what.Cut zeros []) (lent (now (state .entry)) (now (history .entry)) (now (image .entry)) []) ⌝ }
 {
     stepped(
         state,
@@ -122,6 +125,7 @@ pub extern "C" fn ssaldorip_cut(
     )
 }
 
+// Brings a down server back from its image.
 #[no_mangle]
 pub extern "C" fn ssaldorip_recover(
     state: &mut [u8],
@@ -129,7 +133,8 @@ pub extern "C" fn ssaldorip_recover(
     image: &mut [u8],
     server: u8,
 ) -> u32
-    ensures { λ r. ⌜ called r (lent (now (state .exit)) (now (history .exit)) (now (image .exit)) []) ≡ call vectorSize 0 (happening server what.Recovery zeros []) noReply (lent (now (state .entry)) (now (history .entry)) (now (image .entry)) []) ⌝ }
+    ensures { λ r. ⌜ called r (lent (now (state .exit)) (now (history .exit)) (now (image .exit)) [])
+        ≡ plainly (happening server what.Recovery zeros []) (lent (now (state .entry)) (now (history .entry)) (now (image .entry)) []) ⌝ }
 {
     stepped(
         state,
@@ -153,12 +158,14 @@ fn cut_after(
     asked: &[u8],
     stores: u32,
 ) -> u32
-    ensures { λ r. ⌜ called r (lent (now (state .exit)) (now (history .exit)) (now (image .exit)) []) ≡ call (length (now (asked .entry))) 0 (happening server (what.RequestCut (phoneOf phone) q stores) (vectorFrom (now (asked .entry))) []) noReply (lent (now (state .entry)) (now (history .entry)) (now (image .entry)) []) ⌝ }
+    ensures { λ r. ⌜ called r (lent (now (state .exit)) (now (history .exit)) (now (image .exit)) [])
+        ≡ call (length (now (asked .entry))) 0 (happening server (what.RequestCut (phoneOf phone) q stores) (vectorFrom (now (asked .entry))) []) noReply
+        (lent (now (state .entry)) (now (history .entry)) (now (image .entry)) []) ⌝ }
 {
-    if asked.len() < VECTOR {
+    if asked.len() < Vector::SIZE {
         return TOO_SHORT;
     }
-    let v = raw::vector_at(asked, 0);
+    let v = vector::raw::vector_at(asked, 0);
     stepped(
         state,
         history,
@@ -170,6 +177,7 @@ fn cut_after(
     )
 }
 
+// A read cut after so many of its stores.
 #[no_mangle]
 pub extern "C" fn ssaldorip_read_cut(
     state: &mut [u8],
@@ -181,12 +189,15 @@ pub extern "C" fn ssaldorip_read_cut(
     asked: &[u8],
     stores: u32,
 ) -> u32
-    ensures { λ r. ⌜ called r (lent (now (state .exit)) (now (history .exit)) (now (image .exit)) []) ≡ call (length (now (asked .entry))) 0 (happening server (what.RequestCut (phoneOf phone) (Read cell) stores) (vectorFrom (now (asked .entry))) []) noReply (lent (now (state .entry)) (now (history .entry)) (now (image .entry)) []) ⌝ }
+    ensures { λ r. ⌜ called r (lent (now (state .exit)) (now (history .exit)) (now (image .exit)) [])
+        ≡ call (length (now (asked .entry))) 0 (happening server (what.RequestCut (phoneOf phone) (Read cell) stores) (vectorFrom (now (asked .entry))) []) noReply
+        (lent (now (state .entry)) (now (history .entry)) (now (image .entry)) []) ⌝ }
 {
     let q = Request::Read { cell };
     cut_after(state, history, image, server, phone, q, asked, stores)
 }
 
+// A write cut after so many of its stores.
 #[no_mangle]
 pub extern "C" fn ssaldorip_write_cut(
     state: &mut [u8],
@@ -200,7 +211,9 @@ pub extern "C" fn ssaldorip_write_cut(
     asked: &[u8],
     stores: u32,
 ) -> u32
-    ensures { λ r. ⌜ called r (lent (now (state .exit)) (now (history .exit)) (now (image .exit)) []) ≡ call (length (now (asked .entry))) 0 (happening server (what.RequestCut (phoneOf phone) (Write cell value time) stores) (vectorFrom (now (asked .entry))) []) noReply (lent (now (state .entry)) (now (history .entry)) (now (image .entry)) []) ⌝ }
+    ensures { λ r. ⌜ called r (lent (now (state .exit)) (now (history .exit)) (now (image .exit)) [])
+        ≡ call (length (now (asked .entry))) 0 (happening server (what.RequestCut (phoneOf phone) (Write cell value time) stores) (vectorFrom (now (asked .entry))) []) noReply
+        (lent (now (state .entry)) (now (history .entry)) (now (image .entry)) []) ⌝ }
 {
     let q = Request::Write { cell, value, time };
     cut_after(state, history, image, server, phone, q, asked, stores)

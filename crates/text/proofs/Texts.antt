@@ -28,6 +28,10 @@ module _ {out : List ℕ} {at : ℕ} {a : List ℕ} {mid : ℕ} {between : List 
   pub same-room : Stored out at a mid between → length between ≡ length out
   same-room p = ap length (p .bytes) ∙ length-sets out at a
 
+  -- a text of at most k bytes
+  pub within : (k : ℕ) → length a ≤ k → Stored out at a mid between → (mid ≤ at + k) × (length between ≡ length out)
+  within k h p = (omega (arith, p .ends), same-room p)
+
   -- the same text, said in another way
   pub same-text : {b : List ℕ} → a ≡ b → Stored out at a mid between → Stored out at b mid between
   same-text e p = record { ends = rw (← e) (p .ends); bytes = rw (← e) (p .bytes) }

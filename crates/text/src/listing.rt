@@ -16,7 +16,7 @@ use notes::message::Checked;
 use notes::message::Header;
 use notes::message::Refusal;
 use notes::message::Written;
-use notes::raw;
+use notes::number;
 use notes::reader;
 use notes::record::Record;
 use notes::vector::Vector;
@@ -71,7 +71,7 @@ fn with_stamp(front: [u32; NUMBERS], t: Vector) -> [u32; NUMBERS]
     let mut xs = front;
     let mut i: usize = 0;
     while i < Vector::LEN {
-        xs[i + BEFORE_STAMP] = raw::wide32(t.counts[i]);
+        xs[i + BEFORE_STAMP] = number::wide32(t.counts[i]);
         i += 1;
     }
     xs
@@ -81,7 +81,7 @@ fn with_stamp(front: [u32; NUMBERS], t: Vector) -> [u32; NUMBERS]
 fn numbers(r: Record) -> [u32; NUMBERS]
     ensures { λ xs. ⌜ xs ≡ numbersOf servers r ⌝ }
 {
-    let number = raw::wide32(r.number());
+    let number = number::wide32(r.number());
     let front = [
         r.origin.0 as u32,
         number,

@@ -1,109 +1,97 @@
 //! The model behind the library's C interface: an archive to try the tests on, until the
 //! real one is there, and (with a line changed) wrong archives that the tests must find.
 
+#[path = "call.rs"]
+#[allow(dead_code)]
+mod call;
 #[path = "model.rs"]
 #[allow(dead_code)]
 mod model;
 
+use call::Call;
+use model::{Left, Memory};
 use std::slice::{from_raw_parts, from_raw_parts_mut};
 
-macro_rules! export {
-    ($name:ident($($arg:tt)*) $body:block) => { export!(@args $name [] [$($arg)*] $body); };
-    (@args $name:ident [$($done:tt)*] [] $body:block) => {
-        #[no_mangle]
-        pub unsafe extern "C" fn $name($($done)*) -> u32 $body
-    };
-    (@args $name:ident [$($done:tt)*] [$arg:ident: $type:ty, $($rest:tt)*] $body:block) => {
-        export!(@args $name [$($done)* $arg: $type,] [$($rest)*] $body);
-    };
+/// What a call is lent. A buffer that it does not have is empty.
+#[derive(Default)]
+struct Lent {
+    state: Vec<u8>,
+    history: Vec<u8>,
+    image: Vec<u8>,
+    given: Vec<u8>,
+    out: Vec<u8>,
 }
 
-unsafe fn slice<'a>(at: *const u8, length: usize) -> &'a [u8] {
-    from_raw_parts(at, length)
+impl Lent {
+    /// The number that the call returns; the buffers are then what it leaves.
+    fn run(&mut self, call: Call) -> usize {
+        let memory = Memory { state: self.state.clone(), history: self.history.clone(), image: self.image.clone() };
+        let Left { number, memory, out } = model::run(&call, &memory, &self.given, &self.out);
+        if let Some(memory) = memory {
+            (self.state, self.history, self.image) = (memory.state, memory.history, memory.image);
+        }
+        if let Some(out) = out {
+            self.out = out;
+        }
+        number
+    }
+}
+
+unsafe fn taken(at: *const u8, length: usize) -> Vec<u8> {
+    from_raw_parts(at, length).to_vec()
 }
 
 unsafe fn put(at: *mut u8, length: usize, bytes: &[u8]) {
     from_raw_parts_mut(at, length).copy_from_slice(bytes)
 }
 
-unsafe fn put_all(m: &model::Memory, s: *mut u8, sl: usize, h: *mut u8, hl: usize, i: *mut u8, il: usize) {
-    put(s, sl, &m.state);
-    put(h, hl, &m.history);
-    put(i, il, &m.image);
+/// Exports a call under its C name. In the list a buffer of `Lent` is lent to be read, or with
+/// `mut` for change; the rest are numbers. The lengths have one name and are several: what a
+/// macro names is new at each of its turns.
+macro_rules! export {
+    ($name:ident($($list:tt)*) -> $type:ty: $call:expr) => { export!(@($name $type, $call) [] [] [] $($list)*,); };
+    (@$call:tt [$($args:tt)*] [$($take:tt)*] [$($put:tt)*] mut $x:ident, $($rest:tt)*) => {
+        export!(@$call [$($args)* $x: *mut u8, length: usize,] [$($take)* $x: taken($x, length),]
+            [$($put)* $x length,] $($rest)*);
+    };
+    (@$call:tt [$($args:tt)*] $take:tt $put:tt $x:ident: $type:ty, $($rest:tt)*) => {
+        export!(@$call [$($args)* $x: $type,] $take $put $($rest)*);
+    };
+    (@$call:tt [$($args:tt)*] [$($take:tt)*] $put:tt $x:ident, $($rest:tt)*) => {
+        export!(@$call [$($args)* $x: *const u8, length: usize,] [$($take)* $x: taken($x, length),] $put $($rest)*);
+    };
+    (@($name:ident $type:ty, $call:expr) [$($args:tt)*] [$($take:tt)*] [$($put:ident $length:ident,)*] $(,)?) => {
+        #[no_mangle]
+        pub unsafe extern "C" fn $name($($args)*) -> $type {
+            let mut lent = Lent { $($take)* ..Lent::default() };
+            let number = lent.run($call);
+            $(put($put, $length, &lent.$put);)*
+            number as $type
+        }
+    };
 }
 
-export!(ssaldorip_start(n: u8, own: u8, s: *mut u8, sl: usize, h: *mut u8, hl: usize, i: *mut u8, il: usize,) {
-    let (number, after) = model::start(n, own, slice(s, sl), slice(h, hl), slice(i, il));
-    put_all(&after, s, sl, h, hl, i, il);
-    number
-});
-export!(ssaldorip_read(s: *mut u8, sl: usize, h: *mut u8, hl: usize, i: *mut u8, il: usize, server: u8, phone: u8, cell: u16, a: *const u8, al: usize, r: *mut u8, rl: usize,) {
-    let (number, (after, reply)) = model::read(slice(s, sl), slice(h, hl), slice(i, il), server, phone, cell, slice(a, al), slice(r, rl));
-    put_all(&after, s, sl, h, hl, i, il);
-    put(r, rl, &reply);
-    number
-});
-export!(ssaldorip_read_cut(s: *mut u8, sl: usize, h: *mut u8, hl: usize, i: *mut u8, il: usize, server: u8, phone: u8, cell: u16, a: *const u8, al: usize, stores: u32,) {
-    let (number, after) = model::read_cut(slice(s, sl), slice(h, hl), slice(i, il), server, phone, cell, slice(a, al), stores);
-    put_all(&after, s, sl, h, hl, i, il);
-    number
-});
-export!(ssaldorip_write(s: *mut u8, sl: usize, h: *mut u8, hl: usize, i: *mut u8, il: usize, server: u8, phone: u8, cell: u16, value: u32, time: u32, a: *const u8, al: usize, r: *mut u8, rl: usize,) {
-    let (number, (after, reply)) = model::write(slice(s, sl), slice(h, hl), slice(i, il), server, phone, cell, value, time, slice(a, al), slice(r, rl));
-    put_all(&after, s, sl, h, hl, i, il);
-    put(r, rl, &reply);
-    number
-});
-export!(ssaldorip_write_cut(s: *mut u8, sl: usize, h: *mut u8, hl: usize, i: *mut u8, il: usize, server: u8, phone: u8, cell: u16, value: u32, time: u32, a: *const u8, al: usize, stores: u32,) {
-    let (number, after) = model::write_cut(slice(s, sl), slice(h, hl), slice(i, il), server, phone, cell, value, time, slice(a, al), stores);
-    put_all(&after, s, sl, h, hl, i, il);
-    number
-});
-export!(ssaldorip_update(s: *mut u8, sl: usize, h: *mut u8, hl: usize, i: *mut u8, il: usize, server: u8, m: *const u8, ml: usize,) {
-    let (number, after) = model::update(slice(s, sl), slice(h, hl), slice(i, il), server, slice(m, ml));
-    put_all(&after, s, sl, h, hl, i, il);
-    number
-});
-export!(ssaldorip_cut(s: *mut u8, sl: usize, h: *mut u8, hl: usize, i: *mut u8, il: usize, server: u8,) {
-    let (number, after) = model::cut(slice(s, sl), slice(h, hl), slice(i, il), server);
-    put_all(&after, s, sl, h, hl, i, il);
-    number
-});
-export!(ssaldorip_recover(s: *mut u8, sl: usize, h: *mut u8, hl: usize, i: *mut u8, il: usize, server: u8,) {
-    let (number, after) = model::recover(slice(s, sl), slice(h, hl), slice(i, il), server);
-    put_all(&after, s, sl, h, hl, i, il);
-    number
-});
-export!(ssaldorip_status(s: *const u8, sl: usize, h: *const u8, hl: usize, i: *const u8, il: usize, r: *mut u8, rl: usize,) {
-    let (number, reply) = model::status(slice(s, sl), slice(h, hl), slice(i, il), slice(r, rl));
-    put(r, rl, &reply);
-    number
-});
-export!(ssaldorip_look_up(i: *const u8, il: usize, origin: u8, number: u32,) {
-    model::look_up(slice(i, il), origin, number)
-});
-export!(ssaldorip_message(s: *const u8, sl: usize, h: *const u8, hl: usize, i: *const u8, il: usize, o: *mut u8, ol: usize,) {
-    let (number, out) = model::message(slice(s, sl), slice(h, hl), slice(i, il), slice(o, ol));
-    put(o, ol, &out);
-    number
-});
-export!(ssaldorip_message_check(m: *const u8, ml: usize,) {
-    model::message_check(slice(m, ml))
-});
-export!(ssaldorip_message_write(n: u8, sender: u8, r: *const u8, rl: usize, o: *mut u8, ol: usize,) {
-    let (number, out) = model::message_write(n, sender, slice(r, rl), slice(o, ol));
-    put(o, ol, &out);
-    number
-});
-// Not by the macro: it returns a size.
-#[no_mangle]
-pub unsafe extern "C" fn ssaldorip_message_next(m: *const u8, ml: usize, at: usize, r: *mut u8, rl: usize) -> usize {
-    let (number, record) = model::message_next(slice(m, ml), at, slice(r, rl));
-    put(r, rl, &record);
-    number
-}
-export!(ssaldorip_session_raise(s: *mut u8, sl: usize, v: *const u8, vl: usize,) {
-    let (number, raised) = model::session_raise(slice(s, sl), slice(v, vl));
-    put(s, sl, &raised);
-    number
-});
+export!(ssaldorip_version() -> u32: Call::Version);
+export!(ssaldorip_start(n: u8, own: u8, mut state, mut history, mut image) -> u32: Call::Start { n, own });
+export!(ssaldorip_read(mut state, mut history, mut image, server: u8, phone: u8, cell: u16, given, mut out) -> u32:
+    Call::Read { server, phone, cell });
+export!(ssaldorip_read_cut(mut state, mut history, mut image,
+    server: u8, phone: u8, cell: u16, given, stores: u32) -> u32: Call::ReadCut { server, phone, cell, stores });
+export!(ssaldorip_write(mut state, mut history, mut image,
+    server: u8, phone: u8, cell: u16, value: u32, time: u32, given, mut out) -> u32:
+    Call::Write { server, phone, cell, value, time });
+export!(ssaldorip_write_cut(mut state, mut history, mut image,
+    server: u8, phone: u8, cell: u16, value: u32, time: u32, given, stores: u32) -> u32:
+    Call::WriteCut { server, phone, cell, value, time, stores });
+export!(ssaldorip_update(mut state, mut history, mut image, server: u8, given) -> u32: Call::Update { server });
+export!(ssaldorip_cut(mut state, mut history, mut image, server: u8) -> u32: Call::Cut { server });
+export!(ssaldorip_recover(mut state, mut history, mut image, server: u8) -> u32: Call::Recover { server });
+export!(ssaldorip_judge(state, history, image) -> u32: Call::Judge);
+export!(ssaldorip_status(state, history, image, mut out) -> u32: Call::Status);
+export!(ssaldorip_look_up(image, origin: u8, number: u32) -> u32: Call::LookUp { origin, number });
+export!(ssaldorip_message(state, history, image, mut out) -> u32: Call::Message);
+export!(ssaldorip_message_check(given) -> u32: Call::MessageCheck);
+export!(ssaldorip_message_write(n: u8, sender: u8, given, mut out) -> u32: Call::MessageWrite { n, sender });
+export!(ssaldorip_message_first(given) -> usize: Call::MessageFirst);
+export!(ssaldorip_message_next(given, at: usize, mut out) -> usize: Call::MessageNext { at });
+export!(ssaldorip_session_raise(mut out, given) -> u32: Call::SessionRaise);

@@ -1,6 +1,8 @@
 //! One call with the buffers lent to it, run on the library and on the model.
 
-use crate::ffi::{Library, Model};
+use crate::call::Call;
+use crate::library::{Library, Model};
+use crate::model::Memory;
 use crate::random::Random;
 use std::fmt;
 
@@ -31,6 +33,11 @@ impl Lent {
         Lent::new(r, content, content.len())
     }
 
+    /// These bytes without guards.
+    pub fn of(content: &[u8]) -> Lent {
+        Lent { all: content.to_vec(), from: 0, length: content.len() }
+    }
+
     pub fn bytes(&self) -> &[u8] {
         &self.all[self.from..self.from + self.length]
     }
@@ -52,6 +59,11 @@ pub struct Lents {
 }
 
 impl Lents {
+    pub fn memory(&self) -> Memory {
+        let [state, history, image] = [&self.state, &self.history, &self.image].map(|lent| lent.bytes().to_vec());
+        Memory { state, history, image }
+    }
+
     fn named(&self) -> [(&'static str, &Lent); 5] {
         [
             ("state", &self.state),
@@ -60,120 +72,6 @@ impl Lents {
             ("asked, message, records or reply vector", &self.given),
             ("reply, output, record or session", &self.out),
         ]
-    }
-}
-
-/// A call and its numbers.
-#[derive(Clone, Copy, Debug, PartialEq, Eq)]
-pub enum Call {
-    Start { n: u8, own: u8 },
-    Read { server: u8, phone: u8, cell: u16 },
-    ReadCut { server: u8, phone: u8, cell: u16, stores: u32 },
-    Write { server: u8, phone: u8, cell: u16, value: u32, time: u32 },
-    WriteCut { server: u8, phone: u8, cell: u16, value: u32, time: u32, stores: u32 },
-    Update { server: u8 },
-    Cut { server: u8 },
-    Recover { server: u8 },
-    Status,
-    LookUp { origin: u8, number: u32 },
-    Message,
-    MessageCheck,
-    MessageWrite { n: u8, sender: u8 },
-    MessageNext { at: usize },
-    SessionRaise,
-}
-
-#[derive(Clone, Copy, Debug, PartialEq, Eq, PartialOrd, Ord)]
-pub enum Kind {
-    Start,
-    Read,
-    ReadCut,
-    Write,
-    WriteCut,
-    Update,
-    Cut,
-    Recover,
-    Status,
-    LookUp,
-    Message,
-    MessageCheck,
-    MessageWrite,
-    MessageNext,
-    SessionRaise,
-}
-
-impl Kind {
-    pub const ALL: [Kind; 15] = [
-        Kind::Start,
-        Kind::Read,
-        Kind::ReadCut,
-        Kind::Write,
-        Kind::WriteCut,
-        Kind::Update,
-        Kind::Cut,
-        Kind::Recover,
-        Kind::Status,
-        Kind::LookUp,
-        Kind::Message,
-        Kind::MessageCheck,
-        Kind::MessageWrite,
-        Kind::MessageNext,
-        Kind::SessionRaise,
-    ];
-}
-
-impl Call {
-    pub fn kind(&self) -> Kind {
-        match self {
-            Call::Start { .. } => Kind::Start,
-            Call::Read { .. } => Kind::Read,
-            Call::ReadCut { .. } => Kind::ReadCut,
-            Call::Write { .. } => Kind::Write,
-            Call::WriteCut { .. } => Kind::WriteCut,
-            Call::Update { .. } => Kind::Update,
-            Call::Cut { .. } => Kind::Cut,
-            Call::Recover { .. } => Kind::Recover,
-            Call::Status => Kind::Status,
-            Call::LookUp { .. } => Kind::LookUp,
-            Call::Message => Kind::Message,
-            Call::MessageCheck => Kind::MessageCheck,
-            Call::MessageWrite { .. } => Kind::MessageWrite,
-            Call::MessageNext { .. } => Kind::MessageNext,
-            Call::SessionRaise => Kind::SessionRaise,
-        }
-    }
-
-    pub fn run(&self, library: &dyn Library, lents: &mut Lents) -> usize {
-        let Lents { state, history, image, given, out } = lents;
-        let (state, history, image) = (state.bytes_mut(), history.bytes_mut(), image.bytes_mut());
-        let (given, out) = (given.bytes(), out.bytes_mut());
-        let number = match *self {
-            Call::Start { n, own } => library.start(n, own, state, history, image),
-            Call::Read { server, phone, cell } => {
-                library.read(state, history, image, server, phone, cell, given, out)
-            }
-            Call::ReadCut { server, phone, cell, stores } => {
-                library.read_cut(state, history, image, server, phone, cell, given, stores)
-            }
-            Call::Write { server, phone, cell, value, time } => {
-                library.write(state, history, image, server, phone, cell, value, time, given, out)
-            }
-            Call::WriteCut { server, phone, cell, value, time, stores } => {
-                library.write_cut(state, history, image, server, phone, cell, value, time, given, stores)
-            }
-            Call::Update { server } => library.update(state, history, image, server, given),
-            Call::Cut { server } => library.cut(state, history, image, server),
-            Call::Recover { server } => library.recover(state, history, image, server),
-            Call::Status => library.status(state, history, image, out),
-            Call::LookUp { origin, number } => library.look_up(image, origin, number),
-            Call::Message => library.message(state, history, image, out),
-            Call::MessageCheck => library.message_check(given),
-            Call::MessageWrite { n, sender } => library.message_write(n, sender, given, out),
-            // The one number of more than 32 bits: all of them are compared.
-            Call::MessageNext { at } => return library.message_next(given, at, out),
-            Call::SessionRaise => library.session_raise(out, given),
-        };
-        number as usize
     }
 }
 
@@ -192,8 +90,8 @@ impl fmt::Display for Failure {
 pub fn compare(library: &dyn Library, call: &Call, lents: &mut Lents) -> Result<usize, Failure> {
     let before = lents.clone();
     let mut expected = lents.clone();
-    let number = call.run(library, lents);
-    let expected_number = call.run(&Model, &mut expected);
+    let number = library.run(call, lents);
+    let expected_number = Model.run(call, &mut expected);
     let told = |what: String| Failure(format!("call {call:?}\n{}{what}", describe(&before)));
     if number != expected_number {
         return Err(told(format!("returned {number}, the model {expected_number}")));

@@ -1,9 +1,10 @@
 //! Random clusters of servers, phones and sessions. Every call is compared with the model;
 //! demand 3 is checked on what the library itself replied and keeps.
 
-use crate::case::{compare, Call, Failure, Lent, Lents};
-use crate::ffi::Library;
+use crate::call::Call;
+use crate::case::{compare, Failure, Lent, Lents};
 use crate::hostile;
+use crate::library::Library;
 use crate::model::{self, Header, Record, State};
 use crate::random::Random;
 use crate::tally::Tally;
@@ -21,7 +22,7 @@ pub struct Runner<'a> {
 
 impl Runner<'_> {
     fn run(&mut self, hostile: bool, call: Call, lents: &mut Lents) -> Result<usize, Failure> {
-        let number = if self.model { compare(self.library, &call, lents)? } else { call.run(self.library, lents) };
+        let number = if self.model { compare(self.library, &call, lents)? } else { self.library.run(&call, lents) };
         self.tally.returned(hostile, call.kind(), number);
         Ok(number)
     }
@@ -35,7 +36,7 @@ impl Runner<'_> {
     pub fn hostile_call(&mut self, call: Call, lents: &mut Lents) -> Result<usize, Failure> {
         let first = self.tally.reasons(&call, lents);
         let number = self.run(true, call, lents)?;
-        let right = first.map_or_else(|| is_done(&call, number), |first| number == first as usize);
+        let right = first.map_or_else(|| is_done(&call, number), |first| number == first);
         if self.model && !right {
             return Err(Failure(format!(
                 "call {call:?}: library and model return {number}, but the first reason present is {first:?}"
@@ -48,7 +49,9 @@ impl Runner<'_> {
 /// Whether a call returns this number if it has no reason not to be done.
 fn is_done(call: &Call, number: usize) -> bool {
     match *call {
+        Call::Version => number == model::VERSION as usize,
         Call::LookUp { .. } => number == 0 || number >= Header::LENGTH,
+        Call::MessageFirst => number == model::MESSAGE_HEADER,
         Call::MessageNext { at } => number == at + Record::LENGTH,
         _ => number == 0,
     }
@@ -255,6 +258,8 @@ impl<'a, 'b> Cluster<'a, 'b> {
             late_replies_raise,
             r,
         };
+        // A program asks for the version before its first other call.
+        cluster.run.call(Call::Version, &mut Lents::default())?;
         for own in 0..n {
             let r = &mut cluster.r;
             let mut memory = Lents::default();
@@ -311,7 +316,7 @@ impl<'a, 'b> Cluster<'a, 'b> {
                 5 => self.deliver()?,
                 6 => self.cut()?,
                 7 => self.recover()?,
-                8 => self.status()?,
+                8 => self.judge_and_status()?,
                 9 => self.look_up()?,
                 10 => self.wrong()?,
                 11 => self.reinstall(),
@@ -553,7 +558,7 @@ impl<'a, 'b> Cluster<'a, 'b> {
     fn read_to_the_end(&mut self, server: usize, mut lents: Lents) -> Result<(), Failure> {
         let length = Record::LENGTH + self.r.pick(&[0, 0, 1, 3]);
         lents.out = Lent::new(&mut self.r, &[], length);
-        let mut at = model::MESSAGE_HEADER;
+        let mut at = self.run.call(Call::MessageFirst, &mut lents)?;
         for record in history_of(&self.servers[server].memory) {
             let behind = self.run.call(Call::MessageNext { at }, &mut lents)?;
             if behind != at + Record::LENGTH || lents.out.bytes()[..Record::LENGTH] != record {
@@ -693,10 +698,14 @@ impl<'a, 'b> Cluster<'a, 'b> {
         self.check_recovered(server, &copy, also)
     }
 
-    // ------------------------------------------------------------ status, look-up, wrong requests
+    // ------------------------------------------------------------ judge, status, look-up, wrong requests
 
-    fn status(&mut self) -> Result<(), Failure> {
+    /// What a server has become is sound, up or down.
+    fn judge_and_status(&mut self) -> Result<(), Failure> {
         let server = self.r.below(self.n as usize);
+        if self.at(server, Call::Judge, &[], 0)?.0 != 0 {
+            return failed(format!("server {server} is not sound"));
+        }
         self.at(server, Call::Status, &[], model::STATUS_REPLY)?;
         Ok(())
     }

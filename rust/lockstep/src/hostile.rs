@@ -1,15 +1,32 @@
 //! Hostile cases: any bytes, damaged sound ones, all lengths, several reasons at once.
 
-use crate::case::{Call, Kind, Lent, Lents};
+use crate::call::{Call, Kind};
+use crate::case::{Lent, Lents};
 use crate::make::{self, Made};
 use crate::model::{self, Header, Message, Record, State};
 use crate::random::Random;
 
-const WEIGHTS: [usize; 15] = [3, 14, 12, 14, 12, 24, 4, 7, 4, 8, 5, 4, 6, 5, 2];
+/// Any call, each with the chance of its weight.
+fn some_kind(r: &mut Random) -> Kind {
+    let weights = Kind::ALL.iter().map(|kind| match kind {
+        Kind::Version => 1,
+        Kind::SessionRaise => 2,
+        Kind::Start | Kind::MessageFirst => 3,
+        Kind::Cut | Kind::Status | Kind::MessageCheck => 4,
+        Kind::Message | Kind::MessageNext => 5,
+        Kind::Judge | Kind::MessageWrite => 6,
+        Kind::Recover => 7,
+        Kind::LookUp => 8,
+        Kind::ReadCut | Kind::WriteCut => 12,
+        Kind::Read | Kind::Write => 14,
+        Kind::Update => 24,
+    });
+    Kind::ALL[r.weighted(&weights.collect::<Vec<_>>())]
+}
 
 /// A case from its own generator alone.
 pub fn case(r: &mut Random) -> (Call, Lents) {
-    let kind = Kind::ALL[r.weighted(&WEIGHTS)];
+    let kind = some_kind(r);
     let mut wish = make::some_wish(r);
     if matches!(kind, Kind::Write | Kind::WriteCut) && r.one_in(8) {
         // A full log.
@@ -23,6 +40,7 @@ pub fn case(r: &mut Random) -> (Call, Lents) {
     }
     let up = match kind {
         Kind::Recover | Kind::LookUp => r.one_in(8),
+        Kind::Judge => r.one_in(2),
         _ => !r.one_in(8),
     };
     let mut made = make::sound(r, &wish, up);
@@ -39,7 +57,7 @@ pub fn case(r: &mut Random) -> (Call, Lents) {
 
 /// A damaged copy of a real server's memory, and any call on it.
 pub fn probe(r: &mut Random, lents: &Lents) -> (Call, Lents) {
-    let kind = Kind::ALL[r.weighted(&WEIGHTS)];
+    let kind = some_kind(r);
     let (state, history, image) = (lents.state.bytes(), lents.history.bytes(), lents.image.bytes());
     let header = Header::parse(image);
     let block = State::parse(state);
@@ -99,6 +117,7 @@ fn on(r: &mut Random, kind: Kind, made: &Made) -> (Call, Lents) {
     let header = Header::parse(&made.image);
     let server = if r.one_in(10) { r.pick(&[0, 1, 7, 8, 255, made.n]) } else { block.own };
     let call = match kind {
+        Kind::Version => Call::Version,
         Kind::Start => {
             let n = r.pick(&[0, 1, 2, 3, 4, 5, 6, 7, 8, 8, 9, 255]);
             let own = if r.one_in(4) { r.pick(&[n, 8, 255]) } else { r.below(n.max(1) as usize) as u8 };
@@ -107,13 +126,18 @@ fn on(r: &mut Random, kind: Kind, made: &Made) -> (Call, Lents) {
         Kind::Read | Kind::ReadCut | Kind::Write | Kind::WriteCut => {
             request(r, kind, server, made, &block, &header, &mut lents)
         }
-        Kind::Update => {
+        Kind::Update | Kind::MessageCheck | Kind::MessageFirst => {
             let message = message(r, &block, made);
             lents.given = Lent::exactly(r, &message);
-            Call::Update { server }
+            match kind {
+                Kind::Update => Call::Update { server },
+                Kind::MessageCheck => Call::MessageCheck,
+                _ => Call::MessageFirst,
+            }
         }
         Kind::Cut => Call::Cut { server },
         Kind::Recover => Call::Recover { server },
+        Kind::Judge => Call::Judge,
         Kind::Status => {
             lents.out = lent(r, &[], model::STATUS_REPLY);
             Call::Status
@@ -142,11 +166,6 @@ fn on(r: &mut Random, kind: Kind, made: &Made) -> (Call, Lents) {
             let size = model::MESSAGE_HEADER + block.held.min(300) as usize * Record::LENGTH;
             lents.out = lent(r, &[], size);
             Call::Message
-        }
-        Kind::MessageCheck => {
-            let message = message(r, &block, made);
-            lents.given = Lent::exactly(r, &message);
-            Call::MessageCheck
         }
         Kind::MessageWrite => message_write(r, made, &mut lents),
         Kind::MessageNext => message_next(r, &block, made, &mut lents),

@@ -1,8 +1,8 @@
 //! The model: document 01 and the library's interface, written for clarity.
 //!
-//! Every call of the interface is here a pure function on byte slices. It returns the
-//! number that the library returns and the bytes of each buffer lent for change, at their
-//! full length: bytes that no step names are the bytes given.
+//! Every call of the interface is here a pure function on bytes, and `run` is all of them.
+
+use crate::call::Call;
 
 // ---------------------------------------------------------------- limits and sizes
 
@@ -26,9 +26,11 @@ pub const READ_REPLY: usize = 5 + VECTOR;
 pub const WRITE_REPLY: usize = VECTOR;
 pub const STATUS_REPLY: usize = 2;
 
+/// The version of the interface that all this is of.
+pub const VERSION: u32 = 1;
+
 // ---------------------------------------------------------------- refusal numbers
 
-pub const DONE: u32 = 0;
 pub const RANGE: u32 = 1;
 pub const DOWN: u32 = 2;
 pub const NOT_YET: u32 = 3;
@@ -515,10 +517,6 @@ pub struct Memory {
 }
 
 impl Memory {
-    fn of(state: &[u8], history: &[u8], image: &[u8]) -> Memory {
-        Memory { state: state.to_vec(), history: history.to_vec(), image: image.to_vec() }
-    }
-
     fn put_state(&mut self, state: &State) {
         self.state[..STATE].copy_from_slice(&state.bytes());
     }
@@ -528,10 +526,14 @@ impl Memory {
         self.history[at..at + Record::LENGTH].copy_from_slice(&record.bytes());
     }
 
+    fn long_enough(&self) -> Result<(), u32> {
+        refuse_if(self.state.len() < STATE, SHORT)?;
+        refuse_if(self.history.len() < HISTORY || self.image.len() < IMAGE, SHORT)
+    }
+
     /// "9 for history and image; 6 for state": the sound state.
     fn judged(&self) -> Result<State, u32> {
-        refuse_if(self.state.len() < STATE, SHORT)?;
-        refuse_if(self.history.len() < HISTORY || self.image.len() < IMAGE, SHORT)?;
+        self.long_enough()?;
         refuse_if(!faults(&self.state, &self.history, &self.image).is_empty(), UNSOUND)?;
         Ok(State::parse(&self.state))
     }
@@ -695,265 +697,219 @@ fn answered(output: &[u8], reply: &[u8]) -> Result<Vec<u8>, u32> {
     Ok([reply, &output[reply.len()..]].concat())
 }
 
-/// "A refusal returns its number only and changes nothing."
-fn or_unchanged<T>(result: Result<T, u32>, unchanged: T) -> (u32, T) {
-    match result {
-        Ok(changed) => (DONE, changed),
-        Err(number) => (number, unchanged),
+// ---------------------------------------------------------------- the calls
+
+/// What a call leaves: the number that it returns, and the bytes of each buffer that it
+/// changed, at their full length. Bytes that no step names are the bytes given.
+#[derive(Clone, Debug, Default, PartialEq, Eq)]
+pub struct Left {
+    pub number: usize,
+    pub memory: Option<Memory>,
+    pub out: Option<Vec<u8>>,
+}
+
+impl Left {
+    fn number(number: usize) -> Left {
+        Left { number, ..Left::default() }
+    }
+
+    fn memory(memory: Memory) -> Left {
+        Left { memory: Some(memory), ..Left::default() }
+    }
+
+    fn out(out: Vec<u8>) -> Left {
+        Left { out: Some(out), ..Left::default() }
     }
 }
 
-// ---------------------------------------------------------------- the calls
-
-pub fn start(n: u8, own: u8, state: &[u8], history: &[u8], image: &[u8]) -> (u32, Memory) {
-    let memory = Memory::of(state, history, image);
-    let started = || {
-        refuse_if(state.len() < STATE || history.len() < HISTORY || image.len() < IMAGE, SHORT)?;
-        refuse_if(!valid_servers(n, own), RANGE)?;
-        let mut after = memory.clone();
-        after.put_state(&State::fresh(n, own));
-        after.history[..HISTORY].fill(0);
-        after.image[..IMAGE].fill(0);
-        after.image[..Header::LENGTH].copy_from_slice(&Header::new(n, own, 0, 0).bytes());
-        Ok(after)
+/// Any call. `given` is the buffer lent to be read beside the memory (asked vector, message,
+/// records, reply vector), `out` the one lent to be changed (reply, output, record, session).
+pub fn run(call: &Call, memory: &Memory, given: &[u8], out: &[u8]) -> Left {
+    let left = match *call {
+        Call::Version => Ok(Left::number(VERSION as usize)),
+        Call::Start { n, own } => start(memory, n, own),
+        Call::Read { server, phone, cell } => read(memory, server, phone, cell, given, out),
+        Call::ReadCut { server, phone, cell, stores } => read_cut(memory, server, phone, cell, given, stores),
+        Call::Write { server, phone, cell, value, time } => {
+            write(memory, server, Write { phone, cell, value, time }, given, out)
+        }
+        Call::WriteCut { server, phone, cell, value, time, stores } => {
+            write_cut(memory, server, Write { phone, cell, value, time }, given, stores)
+        }
+        Call::Update { server } => update(memory, server, given),
+        Call::Cut { server } => cut(memory, server),
+        Call::Recover { server } => recover(memory, server),
+        Call::Judge => memory.judged().map(|_| Left::default()),
+        Call::Status => status(memory, out),
+        Call::LookUp { origin, number } => look_up(&memory.image, origin, number),
+        Call::Message => message(memory, out),
+        Call::MessageCheck => message_check(given),
+        Call::MessageWrite { n, sender } => message_write(n, sender, given, out),
+        Call::MessageFirst => Ok(message_first(given)),
+        Call::MessageNext { at } => message_next(given, at, out),
+        Call::SessionRaise => session_raise(out, given),
     };
-    or_unchanged(started(), memory.clone())
+    // "A refusal returns its number only and changes nothing."
+    left.unwrap_or_else(|refusal| Left::number(refusal as usize))
 }
 
-#[allow(clippy::too_many_arguments)]
-pub fn read(
-    state: &[u8],
-    history: &[u8],
-    image: &[u8],
-    server: u8,
-    phone: u8,
-    cell: u16,
-    asked: &[u8],
-    reply: &[u8],
-) -> (u32, (Memory, Vec<u8>)) {
-    let memory = Memory::of(state, history, image);
-    let served = || {
-        let state = judged_request(&memory, server, phone, cell, asked)?;
-        let step = Step::read(&memory, &state, phone, cell);
-        let reply = answered(reply, &step.reply)?;
-        Ok((step.done(&memory), reply))
-    };
-    or_unchanged(served(), (memory.clone(), reply.to_vec()))
+fn start(memory: &Memory, n: u8, own: u8) -> Result<Left, u32> {
+    memory.long_enough()?;
+    refuse_if(!valid_servers(n, own), RANGE)?;
+    let mut after = memory.clone();
+    after.put_state(&State::fresh(n, own));
+    after.history[..HISTORY].fill(0);
+    after.image[..IMAGE].fill(0);
+    after.image[..Header::LENGTH].copy_from_slice(&Header::new(n, own, 0, 0).bytes());
+    Ok(Left::memory(after))
 }
 
-#[allow(clippy::too_many_arguments)]
-pub fn read_cut(
-    state: &[u8],
-    history: &[u8],
-    image: &[u8],
-    server: u8,
-    phone: u8,
-    cell: u16,
-    asked: &[u8],
-    stores: u32,
-) -> (u32, Memory) {
-    let memory = Memory::of(state, history, image);
-    let cut = || {
-        let state = judged_request(&memory, server, phone, cell, asked)?;
-        Step::read(&memory, &state, phone, cell).cut_after(&memory, stores)
-    };
-    or_unchanged(cut(), memory.clone())
+fn read(memory: &Memory, server: u8, phone: u8, cell: u16, asked: &[u8], reply: &[u8]) -> Result<Left, u32> {
+    let state = judged_request(memory, server, phone, cell, asked)?;
+    let step = Step::read(memory, &state, phone, cell);
+    let reply = answered(reply, &step.reply)?;
+    Ok(Left { memory: Some(step.done(memory)), ..Left::out(reply) })
 }
 
-#[allow(clippy::too_many_arguments)]
-pub fn write(
-    state: &[u8],
-    history: &[u8],
-    image: &[u8],
-    server: u8,
-    phone: u8,
-    cell: u16,
-    value: u32,
-    time: u32,
-    asked: &[u8],
-    reply: &[u8],
-) -> (u32, (Memory, Vec<u8>)) {
-    let memory = Memory::of(state, history, image);
-    let write = Write { phone, cell, value, time };
-    let served = || {
-        let state = judged_write(&memory, server, write, asked)?;
-        let step = Step::write(&memory, &state, write);
-        let reply = answered(reply, &step.reply)?;
-        Ok((step.done(&memory), reply))
-    };
-    or_unchanged(served(), (memory.clone(), reply.to_vec()))
+fn read_cut(memory: &Memory, server: u8, phone: u8, cell: u16, asked: &[u8], stores: u32) -> Result<Left, u32> {
+    let state = judged_request(memory, server, phone, cell, asked)?;
+    Ok(Left::memory(Step::read(memory, &state, phone, cell).cut_after(memory, stores)?))
 }
 
-#[allow(clippy::too_many_arguments)]
-pub fn write_cut(
-    state: &[u8],
-    history: &[u8],
-    image: &[u8],
-    server: u8,
-    phone: u8,
-    cell: u16,
-    value: u32,
-    time: u32,
-    asked: &[u8],
-    stores: u32,
-) -> (u32, Memory) {
-    let memory = Memory::of(state, history, image);
-    let write = Write { phone, cell, value, time };
-    let cut = || {
-        let state = judged_write(&memory, server, write, asked)?;
-        Step::write(&memory, &state, write).cut_after(&memory, stores)
-    };
-    or_unchanged(cut(), memory.clone())
+fn write(memory: &Memory, server: u8, write: Write, asked: &[u8], reply: &[u8]) -> Result<Left, u32> {
+    let state = judged_write(memory, server, write, asked)?;
+    let step = Step::write(memory, &state, write);
+    let reply = answered(reply, &step.reply)?;
+    Ok(Left { memory: Some(step.done(memory)), ..Left::out(reply) })
+}
+
+fn write_cut(memory: &Memory, server: u8, write: Write, asked: &[u8], stores: u32) -> Result<Left, u32> {
+    let state = judged_write(memory, server, write, asked)?;
+    Ok(Left::memory(Step::write(memory, &state, write).cut_after(memory, stores)?))
 }
 
 /// "in message order, a write numbered at most V[origin] is skipped uncompared; one
 /// numbered V[origin] + 1 is appended and V[origin] becomes that number; V changes nowhere
 /// else. ... Nothing is stored."
-pub fn update(state: &[u8], history: &[u8], image: &[u8], server: u8, message: &[u8]) -> (u32, Memory) {
-    let memory = Memory::of(state, history, image);
-    let taken = || {
-        let mut state = memory.judged_up()?;
-        refuse_if(server != state.own, RANGE)?;
-        let message = Message::parse(message).ok_or(UNSOUND)?;
-        refuse_if(message.n != state.n || message.sender == state.own, UNSOUND)?;
-        let mut new = Vec::new();
-        for record in message.records {
-            let origin = record.origin as usize;
-            let number = record.t[origin];
-            if number <= state.v[origin] {
-                continue;
-            }
-            refuse_if(record.origin == state.own, OWN_AHEAD)?;
-            refuse_if(number > state.v[origin] + 1, GAP)?;
-            state.v[origin] = number;
-            new.push(record);
+fn update(memory: &Memory, server: u8, message: &[u8]) -> Result<Left, u32> {
+    let mut state = memory.judged_up()?;
+    refuse_if(server != state.own, RANGE)?;
+    let message = Message::parse(message).ok_or(UNSOUND)?;
+    refuse_if(message.n != state.n || message.sender == state.own, UNSOUND)?;
+    let mut new = Vec::new();
+    for record in message.records {
+        let origin = record.origin as usize;
+        let number = record.t[origin];
+        if number <= state.v[origin] {
+            continue;
         }
-        refuse_if(state.held as usize + new.len() > HISTORY_WRITES, FULL)?;
-        let mut after = memory.clone();
-        for record in &new {
-            after.put_history(state.held as usize, record);
-            state.held += 1;
-        }
-        after.put_state(&state);
-        Ok(after)
-    };
-    or_unchanged(taken(), memory.clone())
+        refuse_if(record.origin == state.own, OWN_AHEAD)?;
+        refuse_if(number > state.v[origin] + 1, GAP)?;
+        state.v[origin] = number;
+        new.push(record);
+    }
+    refuse_if(state.held as usize + new.len() > HISTORY_WRITES, FULL)?;
+    let mut after = memory.clone();
+    for record in &new {
+        after.put_history(state.held as usize, record);
+        state.held += 1;
+    }
+    after.put_state(&state);
+    Ok(Left::memory(after))
 }
 
 /// "A plain cut stores nothing."
-pub fn cut(state: &[u8], history: &[u8], image: &[u8], server: u8) -> (u32, Memory) {
-    let memory = Memory::of(state, history, image);
-    let done = || {
-        let state = memory.judged_up()?;
-        refuse_if(server != state.own, RANGE)?;
-        let mut after = memory.clone();
-        after.put_state(&State::down(state.n, state.own));
-        Ok(after)
-    };
-    or_unchanged(done(), memory.clone())
+fn cut(memory: &Memory, server: u8) -> Result<Left, u32> {
+    let state = memory.judged_up()?;
+    refuse_if(server != state.own, RANGE)?;
+    let mut after = memory.clone();
+    after.put_state(&State::down(state.n, state.own));
+    Ok(Left::memory(after))
 }
 
-pub fn recover(state: &[u8], history: &[u8], image: &[u8], server: u8) -> (u32, Memory) {
-    let memory = Memory::of(state, history, image);
-    let done = || {
-        let state = memory.judged()?;
-        refuse_if(state.up == 1, DOWN)?;
-        refuse_if(server != state.own, RANGE)?;
-        let (state, history) = recovered(state.n, state.own, &memory.image);
-        let mut after = memory.clone();
-        after.history[..HISTORY].fill(0);
-        for (place, record) in history.iter().enumerate() {
-            after.put_history(place, record);
-        }
-        after.put_state(&state);
-        Ok(after)
-    };
-    or_unchanged(done(), memory.clone())
+fn recover(memory: &Memory, server: u8) -> Result<Left, u32> {
+    let state = memory.judged()?;
+    refuse_if(state.up == 1, DOWN)?;
+    refuse_if(server != state.own, RANGE)?;
+    let (state, history) = recovered(state.n, state.own, &memory.image);
+    let mut after = memory.clone();
+    after.history[..HISTORY].fill(0);
+    for (place, record) in history.iter().enumerate() {
+        after.put_history(place, record);
+    }
+    after.put_state(&state);
+    Ok(Left::memory(after))
 }
 
 /// "how many phones are in CR, and the lowest numbered one if any"
-pub fn status(state: &[u8], history: &[u8], image: &[u8], reply: &[u8]) -> (u32, Vec<u8>) {
-    let memory = Memory::of(state, history, image);
-    let told = || {
-        let state = memory.judged_up()?;
-        let phones: Vec<u8> = (0..PHONES as u8).filter(|&i| state.in_cr(i)).collect();
-        answered(reply, &[phones.len() as u8, phones.first().copied().unwrap_or(255)])
-    };
-    or_unchanged(told(), reply.to_vec())
+fn status(memory: &Memory, reply: &[u8]) -> Result<Left, u32> {
+    let state = memory.judged_up()?;
+    let phones: Vec<u8> = (0..PHONES as u8).filter(|&i| state.in_cr(i)).collect();
+    let told = [phones.len() as u8, phones.first().copied().unwrap_or(255)];
+    Ok(Left::out(answered(reply, &told)?))
 }
 
 /// "the record's bytes as they stand, from the checkpoint area or else from the log, or
 /// "not there", also for a number that can't occur"
-pub fn look_up(image: &[u8], origin: u8, number: u32) -> u32 {
-    if image.len() < IMAGE {
-        return SHORT;
-    }
-    if !faults_of_image(image).is_empty() {
-        return UNSOUND;
-    }
-    if origin >= Header::parse(image).n {
-        return RANGE;
-    }
+fn look_up(image: &[u8], origin: u8, number: u32) -> Result<Left, u32> {
+    refuse_if(image.len() < IMAGE, SHORT)?;
+    refuse_if(!faults_of_image(image).is_empty(), UNSOUND)?;
+    refuse_if(origin >= Header::parse(image).n, RANGE)?;
     let sought = |r: &Record| r.origin == origin && r.number().map(u32::from) == Some(number);
     let place = |area: usize, records: Vec<Record>| {
-        records.iter().position(sought).map(|index| (area + index * Record::LENGTH) as u32)
+        records.iter().position(sought).map(|index| area + index * Record::LENGTH)
     };
-    place(CHECKPOINT_AT, checkpoint(image)).or_else(|| place(LOG_AT, log(image))).unwrap_or(0)
+    let found = place(CHECKPOINT_AT, checkpoint(image)).or_else(|| place(LOG_AT, log(image)));
+    Ok(Left::number(found.unwrap_or(0)))
 }
 
 /// The server's own update message.
-pub fn message(state: &[u8], history: &[u8], image: &[u8], out: &[u8]) -> (u32, Vec<u8>) {
-    let memory = Memory::of(state, history, image);
-    let made = || {
-        let state = memory.judged_up()?;
-        let records = memory.held(&state);
-        answered(out, &Message { n: state.n, sender: state.own, records }.bytes())
-    };
-    or_unchanged(made(), out.to_vec())
+fn message(memory: &Memory, out: &[u8]) -> Result<Left, u32> {
+    let state = memory.judged_up()?;
+    let records = memory.held(&state);
+    Ok(Left::out(answered(out, &Message { n: state.n, sender: state.own, records }.bytes())?))
 }
 
-pub fn message_check(message: &[u8]) -> u32 {
+fn message_check(message: &[u8]) -> Result<Left, u32> {
+    Message::parse(message).map(|_| Left::default()).ok_or(UNSOUND)
+}
+
+fn message_write(n: u8, sender: u8, records: &[u8], out: &[u8]) -> Result<Left, u32> {
+    refuse_if(!valid_servers(n, sender), RANGE)?;
+    let count = records.len() / Record::LENGTH;
+    refuse_if(!records.len().is_multiple_of(Record::LENGTH) || count > HISTORY_WRITES, UNSOUND)?;
+    let records = self::records(records, 0, count);
+    refuse_if(!records.iter().all(|r| r.well_formed(n)), UNSOUND)?;
+    Ok(Left::out(answered(out, &Message { n, sender, records }.bytes())?))
+}
+
+/// Where the reading of a message begins: "then the sender's history in order", behind the
+/// eight bytes of the header. In what is no message there is nothing to read: its end.
+fn message_first(message: &[u8]) -> Left {
     match Message::parse(message) {
-        Some(_) => DONE,
-        None => UNSOUND,
+        Some(_) => Left::number(MESSAGE_HEADER),
+        None => Left::number(message.len()),
     }
-}
-
-pub fn message_write(n: u8, sender: u8, records: &[u8], out: &[u8]) -> (u32, Vec<u8>) {
-    let made = || {
-        refuse_if(!valid_servers(n, sender), RANGE)?;
-        let count = records.len() / Record::LENGTH;
-        refuse_if(!records.len().is_multiple_of(Record::LENGTH) || count > HISTORY_WRITES, UNSOUND)?;
-        let records = self::records(records, 0, count);
-        refuse_if(!records.iter().all(|r| r.well_formed(n)), UNSOUND)?;
-        answered(out, &Message { n, sender, records }.bytes())
-    };
-    or_unchanged(made(), out.to_vec())
 }
 
 /// "The app reads it through a reader that holds the message and the place of the next
 /// record": the record's 28 bytes, and the place of the one after it; 0 if not all 28 are
 /// there.
-pub fn message_next(message: &[u8], at: usize, record: &[u8]) -> (usize, Vec<u8>) {
-    if record.len() < Record::LENGTH {
-        return (SHORT as usize, record.to_vec());
-    }
+fn message_next(message: &[u8], at: usize, record: &[u8]) -> Result<Left, u32> {
+    refuse_if(record.len() < Record::LENGTH, SHORT)?;
     let whole = message.get(at..).and_then(|rest| rest.get(..Record::LENGTH));
     match whole {
-        Some(bytes) => (at + Record::LENGTH, [bytes, &record[Record::LENGTH..]].concat()),
-        None => (0, record.to_vec()),
+        Some(bytes) => Ok(Left { number: at + Record::LENGTH, ..Left::out(answered(record, bytes)?) }),
+        None => Ok(Left::default()),
     }
 }
 
 /// "A read's reply raises R to the maximum, position by position."
-pub fn session_raise(session: &[u8], reply_vector: &[u8]) -> (u32, Vec<u8>) {
-    let raised = || {
-        refuse_if(session.len() < VECTOR || reply_vector.len() < VECTOR, SHORT)?;
-        let (r, v) = (vector(session), vector(reply_vector));
-        let maximum: Vector = std::array::from_fn(|i| r[i].max(v[i]));
-        answered(session, &vector_bytes(&maximum))
-    };
-    or_unchanged(raised(), session.to_vec())
+fn session_raise(session: &[u8], reply_vector: &[u8]) -> Result<Left, u32> {
+    refuse_if(session.len() < VECTOR || reply_vector.len() < VECTOR, SHORT)?;
+    let (r, v) = (vector(session), vector(reply_vector));
+    let maximum: Vector = std::array::from_fn(|i| r[i].max(v[i]));
+    Ok(Left::out(answered(session, &vector_bytes(&maximum))?))
 }
 
 #[cfg(test)]
@@ -983,12 +939,15 @@ mod tests {
 
     #[test]
     fn the_listing_example() {
-        assert_eq!(message_check(&LISTED), DONE);
+        assert_eq!(message_check(&LISTED), Ok(Left::default()));
         assert_eq!(listing(&LISTED), "servers 2 sender 0 writes 1\n0 1 5 300 7 900 1 0\n");
         assert_eq!(listing(&LISTED[..35]), "refused 6\n");
-        assert_eq!(message_write(2, 0, &LISTED[8..], &[9; 37]), (DONE, [&LISTED[..], &[9]].concat()));
-        assert_eq!(message_next(&LISTED, 8, &[9; 29]), (36, [&LISTED[8..], &[9]].concat()));
-        assert_eq!(message_next(&LISTED, 36, &[9; 29]), (0, vec![9; 29]));
+        assert_eq!(message_write(2, 0, &LISTED[8..], &[9; 37]), Ok(Left::out([&LISTED[..], &[9]].concat())));
+        assert_eq!(message_first(&LISTED), Left::number(8));
+        assert_eq!(message_first(&LISTED[..35]), Left::number(35));
+        let first = Left { number: 36, ..Left::out([&LISTED[8..], &[9]].concat()) };
+        assert_eq!(message_next(&LISTED, 8, &[9; 29]), Ok(first));
+        assert_eq!(message_next(&LISTED, 36, &[9; 29]), Ok(Left::default()));
     }
 
     #[test]

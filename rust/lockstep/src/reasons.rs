@@ -1,7 +1,8 @@
 //! All reasons to refuse that a case has, whatever their order: to count which reasons
 //! meet, and to check the model's own order against document 01's list a second time.
 
-use crate::case::{Call, Kind, Lents};
+use crate::call::{Call, Kind};
+use crate::case::Lents;
 use crate::model::{self, Fault, Header, Message, Record, State, Vector};
 
 /// A reason that a lent byte or a number of the call shows. Bytes missing from a short
@@ -140,8 +141,9 @@ impl Found {
 pub fn find(call: &Call, lents: &Lents) -> Found {
     let mut found = Found { causes: Vec::new(), faults: Vec::new(), up: false };
     match *call {
+        Call::Version => {}
         Call::LookUp { origin, .. } => look_up(&mut found, lents.image.bytes(), origin),
-        Call::MessageCheck => {
+        Call::MessageCheck | Call::MessageFirst => {
             if Message::parse(lents.given.bytes()).is_none() {
                 found.causes.push(Cause::Message);
             }
@@ -231,6 +233,7 @@ fn at_a_server(found: &mut Found, call: &Call, lents: &Lents) {
             found.note(visibly_unsound(block, header.as_ref()), Cause::Unsound);
         }
         match call.kind() {
+            Kind::Judge => {}
             Kind::Recover => found.note(block.up == 1, Cause::Up),
             _ => found.note(block.up == 0, Cause::Down),
         }

@@ -1,7 +1,8 @@
 //! What a run has seen: numbers by call, reasons alone and together, sentences of
 //! soundness broken alone; and what a full run must have seen.
 
-use crate::case::{Call, Kind, Lents};
+use crate::call::{Call, Kind};
+use crate::case::Lents;
 use crate::model::Fault;
 use crate::reasons::{self, Cause, Reason};
 use std::collections::BTreeMap;
@@ -30,13 +31,17 @@ impl Tally {
         // other calls would be few among its records.
         let read_on = !hostile && kind == Kind::MessageNext && number != 0;
         self.cases += !read_on as u64;
-        // A place counts as 10.
-        *self.numbers.entry((hostile, kind, number.min(10) as u32)).or_default() += 1;
+        // What is no refusal, a place or the version, counts as 10.
+        let number = match kind {
+            Kind::Version | Kind::MessageFirst => 10,
+            _ => number.min(10) as u32,
+        };
+        *self.numbers.entry((hostile, kind, number)).or_default() += 1;
     }
 
-    /// Counts the reasons of a case before its call. The first of them, in document 01's
-    /// order, is what the call should return; none if there are none.
-    pub fn reasons(&mut self, call: &Call, lents: &Lents) -> Option<u32> {
+    /// Counts the reasons of a case before its call. What the call should return for the
+    /// first of them, in document 01's order; none if there are none.
+    pub fn reasons(&mut self, call: &Call, lents: &Lents) -> Option<usize> {
         let kind = call.kind();
         let found = reasons::find(call, lents);
         let reasons = found.reasons();
@@ -50,17 +55,16 @@ impl Tally {
                 *self.faults.entry((found.up, *fault)).or_default() += 1;
             }
         }
-        Some(first.number())
+        Some(match kind {
+            // No refusal: the end of what is no message.
+            Kind::MessageFirst => lents.given.bytes().len(),
+            _ => first.number() as usize,
+        })
     }
 
-    /// What was not seen and must be, in a full run.
-    pub fn missing(&self) -> Vec<String> {
+    /// What clusters were to show and did not.
+    pub fn missing_in_clusters(&self) -> Vec<String> {
         let mut missing = Vec::new();
-        for number in 1..=9 {
-            if !self.numbers.keys().any(|&(_, _, seen)| seen == number) {
-                missing.push(format!("refusal {number}"));
-            }
-        }
         for (kind, number) in MET_IN_CLUSTERS {
             if !self.numbers.contains_key(&(false, kind, number)) {
                 missing.push(format!("{kind:?}: {number} in a cluster"));
@@ -77,6 +81,12 @@ impl Tally {
         if self.swept_writes == 0 {
             missing.push("every cut of a write".to_string());
         }
+        missing
+    }
+
+    /// What hostile cases were to show and did not.
+    pub fn missing_in_hostile_cases(&self) -> Vec<String> {
+        let mut missing = Vec::new();
         for (kind, first, other) in pairs_that_can_meet() {
             if !self.pairs.contains_key(&(kind, first, other)) {
                 missing.push(format!("{kind:?}: {first:?} with {other:?}"));
@@ -104,8 +114,8 @@ impl Tally {
         let mut text = String::new();
         for hostile in [false, true] {
             let of = if hostile { "hostile cases" } else { "clusters" };
-            text += &format!("numbers returned in {of} (10 is a place, of look_up or message_next)\n");
-            for kind in Kind::ALL {
+            text += &format!("numbers returned in {of} (10 is a place or the version)\n");
+            for &kind in Kind::ALL {
                 text += &format!("  {:13}", format!("{kind:?}"));
                 for number in 0..=10 {
                     if let Some(seen) = self.numbers.get(&(hostile, kind, number)) {
@@ -123,7 +133,7 @@ impl Tally {
             swept.join(" ")
         );
         text += "pairs of reasons (the one reported, one that was there too)\n";
-        for kind in Kind::ALL {
+        for &kind in Kind::ALL {
             let seen: Vec<String> = self
                 .pairs
                 .iter()
@@ -135,7 +145,7 @@ impl Tally {
             }
         }
         text += "causes that were a case's only one\n";
-        for kind in Kind::ALL {
+        for &kind in Kind::ALL {
             let seen: Vec<String> = self
                 .alone
                 .iter()
@@ -161,7 +171,8 @@ impl Tally {
 }
 
 /// What genuine clusters meet (7 and 8 cannot come of genuine messages).
-const MET_IN_CLUSTERS: [(Kind, u32); 24] = [
+const MET_IN_CLUSTERS: [(Kind, u32); 27] = [
+    (Kind::Version, 10),
     (Kind::Read, 0),
     (Kind::Read, 1),
     (Kind::Read, 2),
@@ -184,6 +195,8 @@ const MET_IN_CLUSTERS: [(Kind, u32); 24] = [
     (Kind::Update, 6),
     (Kind::Recover, 0),
     (Kind::Recover, 2),
+    (Kind::Judge, 0),
+    (Kind::MessageFirst, 10),
     (Kind::MessageNext, 0),
     (Kind::MessageNext, 10),
 ];
@@ -192,6 +205,7 @@ const MET_IN_CLUSTERS: [(Kind, u32); 24] = [
 fn reasons_of(kind: Kind) -> &'static [Reason] {
     use Reason::*;
     match kind {
+        Kind::Version => &[],
         Kind::Start => &[Short9, Range1],
         Kind::Read => &[Short9, State6, Down2, Range1, NotYet3, Output9],
         Kind::ReadCut => &[Short9, State6, Down2, Range1, NotYet3, Cut1],
@@ -199,9 +213,10 @@ fn reasons_of(kind: Kind) -> &'static [Reason] {
         Kind::WriteCut => &[Short9, State6, Down2, Range1, NotYet3, Full4, LogFull5, Cut1],
         Kind::Update => &[Short9, State6, Down2, Range1, Message6, Gap7, OwnAhead8, Full4],
         Kind::Cut | Kind::Recover => &[Short9, State6, Down2, Range1],
+        Kind::Judge => &[Short9, State6],
         Kind::Status | Kind::Message => &[Short9, State6, Down2, Output9],
         Kind::LookUp => &[Short9, State6, Range1],
-        Kind::MessageCheck => &[Message6],
+        Kind::MessageCheck | Kind::MessageFirst => &[Message6],
         Kind::MessageWrite => &[Range1, Message6, Output9],
         Kind::MessageNext => &[Output9, End0],
         Kind::SessionRaise => &[Short9],
@@ -212,7 +227,7 @@ fn reasons_of(kind: Kind) -> &'static [Reason] {
 /// down state holds no writes, and a message has at most 256, so 2 never meets 4.
 pub fn pairs_that_can_meet() -> Vec<(Kind, Reason, Reason)> {
     let mut pairs = Vec::new();
-    for kind in Kind::ALL {
+    for &kind in Kind::ALL {
         let reasons = reasons_of(kind);
         for (i, &first) in reasons.iter().enumerate() {
             for &other in &reasons[i + 1..] {
@@ -239,11 +254,16 @@ fn causes_that_can_be_alone() -> Vec<(Kind, Cause)> {
         Kind::Update,
         Kind::Cut,
         Kind::Recover,
+        Kind::Judge,
         Kind::Status,
         Kind::Message,
     ] {
         add(kind, &[ShortState, ShortHistory, ShortImage, Unsound]);
-        add(kind, &[if kind == Kind::Recover { Up } else { Down }]);
+        match kind {
+            Kind::Judge => {}
+            Kind::Recover => add(kind, &[Up]),
+            _ => add(kind, &[Down]),
+        }
     }
     for kind in [Kind::Read, Kind::ReadCut, Kind::Write, Kind::WriteCut] {
         add(kind, &[ShortAsked, ServerNotOwn, Phone, Cell, PastN, NotYet]);
@@ -262,6 +282,7 @@ fn causes_that_can_be_alone() -> Vec<(Kind, Cause)> {
     add(Kind::Start, &[ShortState, ShortHistory, ShortImage, N, Own]);
     add(Kind::LookUp, &[ShortImage, Unsound, Origin]);
     add(Kind::MessageCheck, &[Message]);
+    add(Kind::MessageFirst, &[Message]);
     add(Kind::MessageWrite, &[N, Sender, Records, ShortOut]);
     add(Kind::MessageNext, &[ShortOut, AtEnd, PartLeft, PastEnd, PlaceTooGreat]);
     add(Kind::SessionRaise, &[ShortSession, ShortReplyVector]);

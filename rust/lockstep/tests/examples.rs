@@ -1,15 +1,16 @@
 //! Document 01's examples, by hand, on every library there is (the model, and the archive
 //! if one is linked).
 
-use ssaldorip_tests::ffi::{libraries, Library};
+use ssaldorip_tests::call::Call;
+use ssaldorip_tests::case::{Lent, Lents};
+use ssaldorip_tests::library::{libraries, Library};
+use ssaldorip_tests::model::VERSION;
 
 /// A server and its three buffers, at their exact sizes.
 struct Server<'a> {
     library: &'a dyn Library,
     own: u8,
-    state: Vec<u8>,
-    history: Vec<u8>,
-    image: Vec<u8>,
+    memory: Lents,
 }
 
 fn bytes(v: &[u16]) -> Vec<u8> {
@@ -18,40 +19,58 @@ fn bytes(v: &[u16]) -> Vec<u8> {
     bytes
 }
 
+/// Makes a call with this to be read and this to be changed.
+fn call(library: &dyn Library, call: Call, memory: &mut Lents, given: &[u8], out: &mut [u8]) -> usize {
+    (memory.given, memory.out) = (Lent::of(given), Lent::of(out));
+    let number = library.run(&call, memory);
+    out.copy_from_slice(memory.out.bytes());
+    number
+}
+
+/// Makes a call that needs no server.
+fn alone(library: &dyn Library, of: Call, given: &[u8], out: &mut [u8]) -> usize {
+    call(library, of, &mut Lents::default(), given, out)
+}
+
 impl<'a> Server<'a> {
     fn fresh(library: &'a dyn Library, n: u8, own: u8) -> Server<'a> {
-        let (mut state, mut history, mut image) = (vec![7; 160], vec![7; 7_168], vec![7; 8_976]);
-        assert_eq!(library.start(n, own, &mut state, &mut history, &mut image), 0);
-        assert!(history.iter().all(|&b| b == 0));
-        assert_eq!(image[..16], [n, own, 0, 0, 16, 0, 0, 0, 0x10, 0x1c, 0x10, 0x23, 0, 0, 0, 0]);
-        assert!(image[16..].iter().all(|&b| b == 0));
-        Server { library, own, state, history, image }
+        let [state, history, image] = [160, 7_168, 8_976].map(|size| Lent::of(&vec![7; size]));
+        let memory = Lents { state, history, image, ..Lents::default() };
+        let mut server = Server { library, own, memory };
+        assert_eq!(server.call(Call::Start { n, own }, &[], &mut []), 0);
+        assert!(server.history().iter().all(|&b| b == 0));
+        assert_eq!(server.image()[..16], [n, own, 0, 0, 16, 0, 0, 0, 0x10, 0x1c, 0x10, 0x23, 0, 0, 0, 0]);
+        assert!(server.image()[16..].iter().all(|&b| b == 0));
+        server
     }
 
     fn copy(&self) -> Server<'a> {
-        let (state, history, image) = (self.state.clone(), self.history.clone(), self.image.clone());
-        Server { library: self.library, own: self.own, state, history, image }
+        Server { library: self.library, own: self.own, memory: self.memory.clone() }
     }
 
-    fn write(&mut self, phone: u8, cell: u16, value: u32) -> Result<Vec<u8>, u32> {
-        let (Server { library, own, state, history, image }, mut reply) = (self, [0; 16]);
-        match library.write(state, history, image, *own, phone, cell, value, 900, &[0; 16], &mut reply) {
+    fn call(&mut self, of: Call, given: &[u8], out: &mut [u8]) -> usize {
+        call(self.library, of, &mut self.memory, given, out)
+    }
+
+    fn write(&mut self, phone: u8, cell: u16, value: u32) -> Result<Vec<u8>, usize> {
+        let (server, mut reply) = (self.own, [0; 16]);
+        match self.call(Call::Write { server, phone, cell, value, time: 900 }, &[0; 16], &mut reply) {
             0 => Ok(reply.to_vec()),
             refusal => Err(refusal),
         }
     }
 
-    fn write_cut(&mut self, phone: u8, cell: u16, value: u32, stores: u32) -> u32 {
-        let Server { library, own, state, history, image } = self;
-        library.write_cut(state, history, image, *own, phone, cell, value, 900, &[0; 16], stores)
+    fn write_cut(&mut self, phone: u8, cell: u16, value: u32, stores: u32) -> usize {
+        let server = self.own;
+        self.call(Call::WriteCut { server, phone, cell, value, time: 900, stores }, &[0; 16], &mut [])
     }
 
     /// The value, if there is a note.
-    fn read(&mut self, phone: u8, cell: u16, asked: &[u16]) -> Result<Option<u32>, u32> {
-        let (Server { library, own, state, history, image }, mut reply) = (self, [0; 21]);
-        match library.read(state, history, image, *own, phone, cell, &bytes(asked), &mut reply) {
+    fn read(&mut self, phone: u8, cell: u16, asked: &[u16]) -> Result<Option<u32>, usize> {
+        let (server, mut reply) = (self.own, [0; 21]);
+        match self.call(Call::Read { server, phone, cell }, &bytes(asked), &mut reply) {
             0 => {
-                assert_eq!(reply[5..], state[8..24]);
+                assert_eq!(reply[5..], self.v());
                 let value = u32::from_le_bytes(reply[1..5].try_into().unwrap());
                 assert!(reply[0] == 1 || reply[..5] == [0; 5]);
                 Ok((reply[0] == 1).then_some(value))
@@ -60,47 +79,68 @@ impl<'a> Server<'a> {
         }
     }
 
-    fn read_cut(&mut self, phone: u8, cell: u16, stores: u32) -> u32 {
-        let Server { library, own, state, history, image } = self;
-        library.read_cut(state, history, image, *own, phone, cell, &[0; 16], stores)
+    fn read_cut(&mut self, phone: u8, cell: u16, stores: u32) -> usize {
+        let server = self.own;
+        self.call(Call::ReadCut { server, phone, cell, stores }, &[0; 16], &mut [])
     }
 
-    fn message(&self) -> Vec<u8> {
+    fn message(&mut self) -> Vec<u8> {
         let mut out = vec![0; 7_176];
-        assert_eq!(self.library.message(&self.state, &self.history, &self.image, &mut out), 0);
+        assert_eq!(self.call(Call::Message, &[], &mut out), 0);
         out.truncate(u16::from_le_bytes([out[6], out[7]]) as usize);
         out
     }
 
-    fn update(&mut self, message: &[u8]) -> u32 {
-        let Server { library, own, state, history, image } = self;
-        library.update(state, history, image, *own, message)
+    fn update(&mut self, message: &[u8]) -> usize {
+        let server = self.own;
+        self.call(Call::Update { server }, message, &mut [])
     }
 
     fn cut(&mut self) {
-        let Server { library, own, state, history, image } = self;
-        assert_eq!(library.cut(state, history, image, *own), 0);
+        let server = self.own;
+        assert_eq!(self.call(Call::Cut { server }, &[], &mut []), 0);
     }
 
     fn recover(&mut self) {
-        let Server { library, own, state, history, image } = self;
-        assert_eq!(library.recover(state, history, image, *own), 0);
+        let server = self.own;
+        assert_eq!(self.call(Call::Recover { server }, &[], &mut []), 0);
+    }
+
+    fn judge(&mut self) -> usize {
+        self.call(Call::Judge, &[], &mut [])
     }
 
     /// How many phones are in CR and the lowest of them.
-    fn status(&self) -> (u8, u8) {
+    fn status(&mut self) -> (u8, u8) {
         let mut reply = [9; 2];
-        assert_eq!(self.library.status(&self.state, &self.history, &self.image, &mut reply), 0);
+        assert_eq!(self.call(Call::Status, &[], &mut reply), 0);
         (reply[0], reply[1])
     }
 
+    fn look_up(&mut self, origin: u8, number: u32) -> usize {
+        self.call(Call::LookUp { origin, number }, &[], &mut [])
+    }
+
+    fn state(&self) -> &[u8] {
+        self.memory.state.bytes()
+    }
+
+    fn history(&self) -> &[u8] {
+        self.memory.history.bytes()
+    }
+
+    fn image(&self) -> &[u8] {
+        self.memory.image.bytes()
+    }
+
     fn v(&self) -> Vec<u8> {
-        self.state[8..24].to_vec()
+        self.state()[8..24].to_vec()
     }
 
     /// The checkpoint's count and the log's.
     fn counts(&self) -> (u16, u16) {
-        (u16::from_le_bytes([self.image[2], self.image[3]]), u16::from_le_bytes([self.image[6], self.image[7]]))
+        let count = |at: usize| u16::from_le_bytes([self.image()[at], self.image()[at + 1]]);
+        (count(2), count(6))
     }
 }
 
@@ -127,7 +167,7 @@ fn example_2() {
         servers[0].cut();
         servers[0].recover();
         assert_eq!(servers[0].v(), bytes(&[1, 0, 0]));
-        assert_eq!(servers[0].history[12..18], [1, 0, 1, 0, 0, 0]);
+        assert_eq!(servers[0].history()[12..18], [1, 0, 1, 0, 0, 0]);
         let from_0 = servers[0].message();
         assert_eq!(servers[2].update(&from_0), 0);
         assert_eq!(servers[2].v(), bytes(&[1, 0, 0]));
@@ -202,7 +242,7 @@ fn example_7() {
             assert_eq!(server.write_cut(5, 300, 7, stores), 0);
             assert_eq!(server.counts(), (0, counted));
             let down: Vec<u8> = [2].into_iter().chain([0; 159]).collect();
-            assert_eq!(server.state, down);
+            assert_eq!(server.state(), down);
             server.recover();
             assert_eq!(server.v(), bytes(&v));
         }
@@ -221,8 +261,8 @@ fn example_8() {
             assert_eq!(server.counts(), counts);
             server.recover();
             assert_eq!(server.v(), bytes(&[1, 0]));
-            assert_eq!(server.state[4..6], [1, 0]);
-            assert_eq!(server.history[..28], before.history[..28]);
+            assert_eq!(server.state()[4..6], [1, 0]);
+            assert_eq!(server.history()[..28], before.history()[..28]);
         }
         assert_eq!(before.copy().read_cut(5, 300, 31), 1);
     }
@@ -236,7 +276,7 @@ fn example_9() {
         one.write(5, 300, 8).unwrap();
         let second = one.message()[36..].to_vec();
         let mut message = vec![0; 36];
-        assert_eq!(library.message_write(2, 1, &second, &mut message), 0);
+        assert_eq!(alone(library, Call::MessageWrite { n: 2, sender: 1 }, &second, &mut message), 0);
         assert_eq!(Server::fresh(library, 2, 0).update(&message), 7);
     }
 }
@@ -279,15 +319,15 @@ fn the_listing_examples_message() {
         let mut server = Server::fresh(library, 2, 0);
         server.write(5, 300, 7).unwrap();
         assert_eq!(server.message(), listed);
-        assert_eq!(library.message_check(&listed), 0);
-        assert_eq!(library.message_check(&listed[..35]), 6);
+        assert_eq!(alone(library, Call::MessageCheck, &listed, &mut []), 0);
+        assert_eq!(alone(library, Call::MessageCheck, &listed[..35], &mut []), 6);
         let mut written = vec![0xee; 40];
-        assert_eq!(library.message_write(2, 0, &listed[8..], &mut written), 0);
+        assert_eq!(alone(library, Call::MessageWrite { n: 2, sender: 0 }, &listed[8..], &mut written), 0);
         assert_eq!(written, [&listed[..], &[0xee; 4]].concat());
-        assert_eq!(library.look_up(&server.image, 0, 1), 7_184);
-        assert_eq!(library.look_up(&server.image, 0, 2), 0);
-        assert_eq!(library.look_up(&server.image, 1, 1), 0);
-        assert_eq!(library.look_up(&server.image, 2, 1), 1);
+        assert_eq!(server.look_up(0, 1), 7_184);
+        assert_eq!(server.look_up(0, 2), 0);
+        assert_eq!(server.look_up(1, 1), 0);
+        assert_eq!(server.look_up(2, 1), 1);
     }
 }
 
@@ -298,20 +338,74 @@ fn a_message_is_read_record_by_record() {
         server.write(5, 300, 7).unwrap();
         server.write(6, 301, 8).unwrap();
         let message = server.message();
+        let next = |at: usize, record: &mut [u8]| alone(library, Call::MessageNext { at }, &message, record);
         let mut record = [0xee; 30];
-        assert_eq!(library.message_next(&message, 8, &mut record), 36);
-        assert_eq!(record[..], [&server.history[..28], &[0xee; 2]].concat());
-        assert_eq!(library.message_next(&message, 36, &mut record), 64);
-        assert_eq!(record[..], [&server.history[28..56], &[0xee; 2]].concat());
+        let first = alone(library, Call::MessageFirst, &message, &mut []);
+        assert_eq!(first, 8);
+        assert_eq!(next(first, &mut record), 36);
+        assert_eq!(record[..], [&server.history()[..28], &[0xee; 2]].concat());
+        assert_eq!(next(36, &mut record), 64);
+        assert_eq!(record[..], [&server.history()[28..56], &[0xee; 2]].concat());
         let last = record;
         for at in [64, 37, 63, 65, usize::MAX - 27, usize::MAX] {
-            assert_eq!(library.message_next(&message, at, &mut record), 0);
+            assert_eq!(next(at, &mut record), 0);
         }
-        assert_eq!(library.message_next(&[], 0, &mut record), 0);
+        assert_eq!(alone(library, Call::MessageNext { at: 0 }, &[], &mut record), 0);
         for at in [8, 64] {
-            assert_eq!(library.message_next(&message, at, &mut record[..27]), 9);
+            assert_eq!(next(at, &mut record[..27]), 9);
         }
         assert_eq!(record, last);
+    }
+}
+
+/// In what is no message the reading begins at the end, where nothing is left.
+#[test]
+fn what_is_no_message_has_nothing_to_read() {
+    for library in libraries() {
+        let mut server = Server::fresh(library, 2, 0);
+        assert_eq!(alone(library, Call::MessageFirst, &server.message(), &mut []), 8);
+        server.write(5, 300, 7).unwrap();
+        let message = server.message();
+        for other in [&[][..], &message[..7], &message[..8], &message[..35], &[&message[..], &[0]].concat()] {
+            let first = alone(library, Call::MessageFirst, other, &mut []);
+            assert_eq!(first, other.len());
+            assert_eq!(alone(library, Call::MessageNext { at: first }, other, &mut [0; 28]), 0);
+        }
+    }
+}
+
+#[test]
+fn a_server_is_judged_up_and_down() {
+    for library in libraries() {
+        let mut server = Server::fresh(library, 2, 0);
+        server.write(5, 300, 7).unwrap();
+        assert_eq!(server.judge(), 0);
+        let mut one_more = server.copy();
+        one_more.memory.state.bytes_mut()[4] = 2; // A write held that no record is of.
+        assert_eq!(one_more.judge(), 6);
+        server.cut();
+        assert_eq!(server.judge(), 0);
+        server.memory.history = Lent::of(&vec![9; 7_168]); // Down, the image alone counts.
+        assert_eq!(server.judge(), 0);
+        for at in [0, 1, 2, 6, 12, 7_184] {
+            let mut spoilt = server.copy();
+            spoilt.memory.image.bytes_mut()[at] += 1;
+            assert_eq!(spoilt.judge(), 6, "byte {at} of the image");
+        }
+        for size in [159, 0] {
+            let mut short = server.copy();
+            short.memory.state = Lent::of(&vec![9; size]);
+            assert_eq!(short.judge(), 9);
+        }
+        server.memory.history = Lent::of(&[0; 7_167]);
+        assert_eq!(server.judge(), 9);
+    }
+}
+
+#[test]
+fn the_version_is_the_models() {
+    for library in libraries() {
+        assert_eq!(alone(library, Call::Version, &[], &mut []), VERSION as usize);
     }
 }
 
@@ -319,9 +413,9 @@ fn a_message_is_read_record_by_record() {
 fn a_session_is_raised_position_by_position() {
     for library in libraries() {
         let mut session = bytes(&[3, 0, 256, 7]);
-        assert_eq!(library.session_raise(&mut session, &bytes(&[1, 5, 255, 7, 1])), 0);
+        assert_eq!(alone(library, Call::SessionRaise, &bytes(&[1, 5, 255, 7, 1]), &mut session), 0);
         assert_eq!(session, bytes(&[3, 5, 256, 7, 1]));
-        assert_eq!(library.session_raise(&mut session, &[0; 15]), 9);
+        assert_eq!(alone(library, Call::SessionRaise, &[0; 15], &mut session), 9);
     }
 }
 

@@ -12,17 +12,23 @@ use Rattle.listing.proofs.main.Statement.{statement}
 use Rattle.listing.proofs.main.Tie as tie
 
 -- where a text was listed, its end
-within : (c : tie.After-known-told) → c .before .listed .given .0 .0 ≤ length (c .before .before .before .before .list .last .1 .0)
+within : (c : tie.After-known-told) → let after-listed : tie.After-listed = search in let after-list : tie.After-list = search in after-listed .listed .given .0 .0 ≤ length (after-list .list .last .1 .0)
 within c =
-    let after = c .before .before .before .before .list .last .1 .0 in
-    let said = sym (ap (λ (w : Written). filled w after) (c .before .listed .given .1)) in
-    listed-within _ _ (c .before .listed .given .0 .0) after (said ∙ c .before .before .before .before .list .ensures)
+    let after-listed : tie.After-listed = search in
+    let after-list : tie.After-list = search in
+    let after = after-list .list .last .1 .0 in
+    let said = sym (ap (λ (w : Written). filled w after) (after-listed .listed .given .1)) in
+    listed-within _ _ (after-listed .listed .given .0 .0) after (said ∙ after-list .list .ensures)
 
 array-share-prefix-out : tie.Need-array-share-prefix-out
 array-share-prefix-out c = within c
 
 slice-aggregate-write-all : tie.Need-slice-aggregate-write-all
-slice-aggregate-write-all c = sym (length-take-le (c .before .before .listed .given .0 .0) (c .before .before .before .before .before .list .last .1 .0) (within (c .before)))
+slice-aggregate-write-all c =
+    let after-known-told : tie.After-known-told = search in
+    let after-listed : tie.After-listed = search in
+    let after-list : tie.After-list = search in
+    sym (length-take-le (after-listed .listed .given .0 .0) (after-list .list .last .1 .0) (within after-known-told))
 
 pub main-spec : {M : Type 1} → statement M
 main-spec =

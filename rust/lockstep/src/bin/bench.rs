@@ -2,17 +2,12 @@
 //!
 //! bench [seconds for each measurement]
 
-use ssaldorip_tests::ffi::{libraries, Library};
+use ssaldorip_tests::call::Call;
+use ssaldorip_tests::case::{Lent, Lents};
+use ssaldorip_tests::library::{libraries, Library};
 use ssaldorip_tests::model::{self, Header, Message, Record, State};
 use std::hint::black_box;
 use std::time::{Duration, Instant};
-
-#[derive(Clone)]
-struct Memory {
-    state: Vec<u8>,
-    history: Vec<u8>,
-    image: Vec<u8>,
-}
 
 const N: u8 = 8;
 
@@ -30,7 +25,7 @@ fn writes(count: usize) -> Vec<Record> {
 }
 
 /// Server 0 with these writes, all of them in the checkpoint or none (own ones in the log).
-fn server(writes: &[Record], checked: bool) -> Memory {
+fn server(writes: &[Record], checked: bool) -> Lents {
     let own: Vec<&Record> = writes.iter().filter(|w| w.origin == 0).collect();
     let (in_checkpoint, in_log) = if checked { (writes.len(), 0) } else { (0, own.len()) };
     let mut state = State::fresh(N, 0);
@@ -48,117 +43,75 @@ fn server(writes: &[Record], checked: bool) -> Memory {
     image.resize(model::IMAGE, 0);
     let mut history: Vec<u8> = writes.iter().flat_map(|w| w.bytes()).collect();
     history.resize(model::HISTORY, 0);
-    Memory { state: state.bytes(), history, image }
+    let [state, history, image] = [state.bytes(), history, image].map(|bytes| Lent::of(&bytes));
+    Lents { state, history, image, ..Lents::default() }
 }
 
-/// Calls a second; each call must be done (or return `expected`).
-fn measure(time: Duration, expected: u32, mut call: impl FnMut() -> u32) -> f64 {
-    for _ in 0..20 {
-        assert_eq!(call(), expected);
-    }
-    let (began, mut calls) = (Instant::now(), 0u64);
-    loop {
+/// Prints how many such calls a second are made. State and image header are put back before
+/// each, and none may be refused.
+fn measure(library: &dyn Library, time: Duration, what: &str, call: Call, mut lents: Lents) {
+    let before = lents.clone();
+    let header = before.image.bytes().len().min(Header::LENGTH);
+    let mut make_20 = || {
         for _ in 0..20 {
-            assert_eq!(black_box(call()), expected);
+            lents.state.bytes_mut().copy_from_slice(before.state.bytes());
+            lents.image.bytes_mut()[..header].copy_from_slice(&before.image.bytes()[..header]);
+            let number = black_box(library.run(&call, &mut lents));
+            assert!(!(1..=9).contains(&number), "{what}: refused {number}");
         }
+    };
+    make_20();
+    let (began, mut calls) = (Instant::now(), 0);
+    while began.elapsed() < time {
+        make_20();
         calls += 20;
-        let passed = began.elapsed();
-        if passed >= time {
-            return calls as f64 / passed.as_secs_f64();
-        }
     }
+    println!("  {what:58} {:>12.0} a second", calls as f64 / began.elapsed().as_secs_f64());
+}
+
+/// The same buffers with this to be read, and this many bytes to be changed.
+fn with(lents: Lents, given: &[u8], out: usize) -> Lents {
+    Lents { given: Lent::of(given), out: Lent::of(&vec![0; out]), ..lents }
 }
 
 fn bench(library: &dyn Library, time: Duration) {
     println!("{}", library.name());
-    let show = |what: &str, a_second: f64| println!("  {what:58} {a_second:>12.0} a second");
-    let (full, all_but_one) = (writes(256), writes(255));
-    let zero = [0; 16];
-    let mut reply = [0; 21];
+    let rate = |what: &str, call: Call, lents: Lents| measure(library, time, what, call, lents);
+    let full = writes(256);
+    let message = Message { n: N, sender: 1, records: full.clone() }.bytes();
+    let update = Call::Update { server: 0 };
+    let read = Call::Read { server: 0, phone: 5, cell: 300 };
+    let write = Call::Write { server: 0, phone: 5, cell: 300, value: 7, time: 900 };
+    let request = |lents: Lents| with(lents, &[0; model::VECTOR], model::READ_REPLY);
 
     for (checked, checkpoint) in [(true, "checkpoint holding all"), (false, "checkpoint holding nothing")] {
-        // An update of 256 writes, none of them new.
-        let mut m = server(&full, checked);
-        let message = Message { n: N, sender: 1, records: full.clone() }.bytes();
-        let rate = measure(time, 0, || library.update(&mut m.state, &mut m.history, &mut m.image, 0, &message));
-        show(&format!("update of 256, none new, {checkpoint}"), rate);
-
-        // A first read at 256 held. The state block is put back after each.
-        let before = m.clone();
-        let rate = measure(time, 0, || {
-            m.state.copy_from_slice(&before.state);
-            library.read(&mut m.state, &mut m.history, &mut m.image, 0, 5, 300, &zero, &mut reply)
-        });
-        show(&format!("read at 256 held, {checkpoint}"), rate);
-
-        // A write at 255 held. State and log count are put back after each.
-        let mut m = server(&all_but_one, checked);
-        let before = m.clone();
-        let rate = measure(time, 0, || {
-            m.state.copy_from_slice(&before.state);
-            m.image[..16].copy_from_slice(&before.image[..16]);
-            library.write(&mut m.state, &mut m.history, &mut m.image, 0, 5, 300, 7, 900, &zero, &mut reply)
-        });
-        show(&format!("write at 255 held, {checkpoint}"), rate);
+        let holding_all = server(&full, checked);
+        rate(&format!("update of 256, none new, {checkpoint}"), update, with(holding_all.clone(), &message, 0));
+        rate(&format!("read at 256 held, {checkpoint}"), read, request(holding_all));
+        rate(&format!("write at 255 held, {checkpoint}"), write, request(server(&full[..255], checked)));
     }
 
-    // An update that brings 224 new writes to a server with its own 32.
     let own: Vec<Record> = full.iter().filter(|w| w.origin == 0).copied().collect();
-    let mut m = server(&own, false);
-    let before = m.clone();
-    let message = Message { n: N, sender: 1, records: full.clone() }.bytes();
-    let rate = measure(time, 0, || {
-        m.state.copy_from_slice(&before.state);
-        library.update(&mut m.state, &mut m.history, &mut m.image, 0, &message)
-    });
-    show("update of 256, 224 new", rate);
+    rate("update of 256, 224 new", update, with(server(&own, false), &message, 0));
 
-    // A second read that takes a checkpoint of all 256.
-    let mut m = server(&full, false);
-    let mut state = State::parse(&m.state);
+    // Phone 5 has read before, with own writes in the log alone.
+    let mut second = server(&full, false);
+    let mut state = State::parse(second.state.bytes());
     (state.cr, state.rw[5]) = (1 << 5, state.writes);
-    let before = Memory { state: state.bytes(), ..m.clone() };
-    let rate = measure(time, 0, || {
-        m.state.copy_from_slice(&before.state);
-        m.image[..16].copy_from_slice(&before.image[..16]);
-        library.read(&mut m.state, &mut m.history, &mut m.image, 0, 5, 300, &zero, &mut reply)
-    });
-    show("read with a checkpoint of 256", rate);
+    second.state = Lent::of(&state.bytes());
+    rate("read with a checkpoint of 256", read, request(second));
 
     // Small servers: 8 writes held, one of them its own, in the log.
-    let mut m = server(&full[..8], false);
-    let before = m.clone();
-    let rate = measure(time, 0, || {
-        m.state.copy_from_slice(&before.state);
-        library.read(&mut m.state, &mut m.history, &mut m.image, 0, 5, 300, &zero, &mut reply)
-    });
-    show("read at 8 held", rate);
-    let rate = measure(time, 0, || {
-        m.state.copy_from_slice(&before.state);
-        m.image[..16].copy_from_slice(&before.image[..16]);
-        library.write(&mut m.state, &mut m.history, &mut m.image, 0, 5, 300, 7, 900, &zero, &mut reply)
-    });
-    show("write at 8 held", rate);
+    rate("read at 8 held", read, request(server(&full[..8], false)));
+    rate("write at 8 held", write, request(server(&full[..8], false)));
 
-    // The other calls, at 256 held.
-    let mut m = server(&full, true);
-    let down = State::down(N, 0).bytes();
-    let rate = measure(time, 0, || {
-        m.state.copy_from_slice(&down);
-        library.recover(&mut m.state, &mut m.history, &mut m.image, 0)
-    });
-    show("recovery of 256", rate);
-    let m = server(&full, true);
-    let rate = measure(time, 0, || library.status(&m.state, &m.history, &m.image, &mut reply));
-    show("status at 256 held", rate);
-    let mut out = vec![0; 7_176];
-    let rate = measure(time, 0, || library.message(&m.state, &m.history, &m.image, &mut out));
-    show("own message of 256", rate);
-    let last = (model::CHECKPOINT_AT + 255 * Record::LENGTH) as u32;
-    let rate = measure(time, last, || library.look_up(&m.image, 7, 32));
-    show("look-up among 256", rate);
-    let rate = measure(time, 0, || library.message_check(&out));
-    show("message check of 256", rate);
+    let up = server(&full, true);
+    let down = Lents { state: Lent::of(&State::down(N, 0).bytes()), ..up.clone() };
+    rate("recovery of 256", Call::Recover { server: 0 }, down);
+    rate("status at 256 held", Call::Status, with(up.clone(), &[], model::STATUS_REPLY));
+    rate("own message of 256", Call::Message, with(up.clone(), &[], message.len()));
+    rate("look-up among 256", Call::LookUp { origin: 7, number: 32 }, up);
+    rate("message check of 256", Call::MessageCheck, with(Lents::default(), &message, 0));
 }
 
 fn main() {

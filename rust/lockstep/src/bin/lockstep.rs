@@ -11,14 +11,14 @@ use ssaldorip_tests::case::Failure;
 use ssaldorip_tests::cluster::{Cluster, Runner};
 use ssaldorip_tests::random::Random;
 use ssaldorip_tests::tally::Tally;
-use ssaldorip_tests::{ffi, hostile};
+use ssaldorip_tests::{hostile, library};
 use std::process::ExitCode;
 use std::time::Instant;
 
 const STEPS: u64 = 200_000;
 const HOSTILE: u64 = 200_000;
 const LONG: u64 = 1_000_000;
-/// A run of at least this many of each must have seen everything listed.
+/// A run of at least this many must have seen everything listed for them.
 const FULL: u64 = 200_000;
 
 struct Arguments {
@@ -63,16 +63,19 @@ fn arguments() -> Result<Arguments, String> {
 }
 
 fn clusters(a: &Arguments, run: &mut Runner) -> Result<(), Failure> {
+    if a.only_hostile.is_some() {
+        return Ok(());
+    }
+    let began = Instant::now();
     let mut index = a.only_cluster.unwrap_or(0);
-    let end = run.tally.cases + a.steps;
-    while run.tally.cases < end {
+    while run.tally.cases < a.steps {
         if a.trace {
             eprintln!("cluster {index}");
         }
         let first = run.tally.cases;
         let mut cluster = Cluster::new(run, Random::derive(a.seed, 1, index))
             .map_err(|f| Failure(format!("seed {} cluster {index}\n{f}", a.seed)))?;
-        let outcome = cluster.go(end);
+        let outcome = cluster.go(a.steps);
         let like = cluster.describe();
         outcome.map_err(|f| {
             let step = run.tally.cases - first;
@@ -83,11 +86,15 @@ fn clusters(a: &Arguments, run: &mut Runner) -> Result<(), Failure> {
             break;
         }
     }
-    println!("clusters: {index}");
+    println!("clusters: {index}, calls: {}, {:.1} s", run.tally.cases, began.elapsed().as_secs_f64());
     Ok(())
 }
 
 fn hostiles(a: &Arguments, run: &mut Runner) -> Result<(), Failure> {
+    if a.only_cluster.is_some() {
+        return Ok(());
+    }
+    let (before, began) = (run.tally.cases, Instant::now());
     let cases = match a.only_hostile {
         Some(index) => index..index + 1,
         None => 0..a.hostile,
@@ -100,7 +107,25 @@ fn hostiles(a: &Arguments, run: &mut Runner) -> Result<(), Failure> {
         run.hostile_call(call, &mut lents)
             .map_err(|f| Failure(format!("seed {} hostile case {index}\n{f}", a.seed)))?;
     }
+    println!("hostile cases: {}, {:.1} s", run.tally.cases - before, began.elapsed().as_secs_f64());
     Ok(())
+}
+
+/// Names what a part of the run was to see and did not; how many of these are failures.
+fn never_seen(a: &Arguments, cases: u64, missing: Vec<String>) -> usize {
+    let only = a.only_cluster.is_some() || a.only_hostile.is_some();
+    if only || !a.model || cases == 0 {
+        return 0;
+    }
+    let full = cases >= FULL;
+    for never in &missing {
+        println!("{}: {never}", if full { "NEVER SEEN" } else { "not seen in this short run" });
+    }
+    if full {
+        missing.len()
+    } else {
+        0
+    }
 }
 
 fn main() -> ExitCode {
@@ -111,41 +136,19 @@ fn main() -> ExitCode {
             return ExitCode::from(2);
         }
     };
-    let library = ffi::library();
+    let library = library::library();
     println!("library: {}", library.name());
     println!("seed {} steps {} hostile {}", a.seed, a.steps, a.hostile);
     let mut run = Runner { library, model: a.model, tally: Tally::default() };
-    let outcome = (|| {
-        let began = Instant::now();
-        if a.only_hostile.is_none() {
-            clusters(&a, &mut run)?;
-            println!("cluster calls: {}, {:.1} s", run.tally.cases, began.elapsed().as_secs_f64());
-        }
-        let (before, began) = (run.tally.cases, Instant::now());
-        if a.only_cluster.is_none() {
-            hostiles(&a, &mut run)?;
-            println!("hostile cases: {}, {:.1} s", run.tally.cases - before, began.elapsed().as_secs_f64());
-        }
-        Ok(())
-    })();
-    let failed = match outcome {
+    let failed = match clusters(&a, &mut run).and_then(|()| hostiles(&a, &mut run)) {
         Err(Failure(what)) => {
             println!("DIFFERENCE\n{what}");
             1
         }
         Ok(()) => {
             print!("{}", run.tally.report());
-            let only = a.only_cluster.is_some() || a.only_hostile.is_some();
-            let full = !only && a.model && a.steps >= FULL && a.hostile >= FULL;
-            let missing = run.tally.missing();
-            for never in &missing {
-                println!("{}: {never}", if full { "NEVER SEEN" } else { "not seen in this short run" });
-            }
-            if full {
-                missing.len()
-            } else {
-                0
-            }
+            never_seen(&a, a.steps, run.tally.missing_in_clusters())
+                + never_seen(&a, a.hostile, run.tally.missing_in_hostile_cases())
         }
     };
     println!("{} passed, {failed} failed", run.tally.cases);

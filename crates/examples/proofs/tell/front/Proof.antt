@@ -11,7 +11,8 @@ returns c = sym (take-all _ _ (c .if1 .taken))
 
 slice-aggregate-result : tie.Need-slice-aggregate-result
 slice-aggregate-result c =
-    let a = c .before .before .args in sym (length-take-le (a .n) (a .xs .now) (search needs))
+    let at-start : tie.Start = search in
+    let a = at-start .args in sym (length-take-le (a .n) (a .xs .now) (search needs))
 
 pub front-spec : {M : Type 1} → statement M
 front-spec = tie.close (tie.spec returns slice-aggregate-result (search needs))

@@ -12,17 +12,23 @@ use Rattle.examples.proofs.tell.say.Statement.{statement}
 use Rattle.examples.proofs.tell.say.Tie as tie
 
 -- where a line was stored, its end
-within : (c : tie.After-known-told) → c .before .put .given .0 .0 ≤ length (c .before .before .before .before .line .last .1 .1 .0)
+within : (c : tie.After-known-told) → let after-put : tie.After-put = search in let after-line : tie.After-line = search in after-put .put .given .0 .0 ≤ length (after-line .line .last .1 .1 .0)
 within c =
-    let after = c .before .before .before .before .line .last .1 .1 .0 in
-    let said = sym (ap (λ (w : Written). filled w after) (c .before .put .given .1)) in
-    line-within _ _ _ (c .before .put .given .0 .0) after (said ∙ c .before .before .before .before .line .ensures)
+    let after-put : tie.After-put = search in
+    let after-line : tie.After-line = search in
+    let after = after-line .line .last .1 .1 .0 in
+    let said = sym (ap (λ (w : Written). filled w after) (after-put .put .given .1)) in
+    line-within _ _ _ (after-put .put .given .0 .0) after (said ∙ after-line .line .ensures)
 
 array-share-prefix-out : tie.Need-array-share-prefix-out
 array-share-prefix-out c = within c
 
 slice-aggregate-write-all : tie.Need-slice-aggregate-write-all
-slice-aggregate-write-all c = sym (length-take-le (c .before .before .put .given .0 .0) (c .before .before .before .before .before .line .last .1 .1 .0) (within (c .before)))
+slice-aggregate-write-all c =
+    let after-known-told : tie.After-known-told = search in
+    let after-put : tie.After-put = search in
+    let after-line : tie.After-line = search in
+    sym (length-take-le (after-put .put .given .0 .0) (after-line .line .last .1 .1 .0) (within after-known-told))
 
 pub say-spec : {M : Type 1} → statement M
 say-spec =

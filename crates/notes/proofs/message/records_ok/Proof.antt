@@ -16,13 +16,17 @@ returns c = rw (ne-eqb _ _ (c .if1 .taken))
 returns-2 : tie.Need-returns-2
 unfolding recordsOk
 returns-2 c =
-    let b = c .before .before .before .args .b .now in rw (length-records (length b / 28) b, lt-leb _ _ (c .if2 .taken), and-false)
+    let at-start : tie.Start = search in
+    let b = at-start .args .b .now in rw (length-records (length b / 28) b, lt-leb _ _ (c .if2 .taken), and-false)
 
 returns-3 : tie.Need-returns-3
 unfolding recordsOk
 returns-3 c =
-    let b = c .before .before .before .before .args .b .now in
-    rw (length-records (length b / 28) b, eq-eqb _ _ (c .before .before .if1 .left), le-leb _ _ (c .before .if2 .left)) (c .all-well-formed .ensures)
+    let else2 : tie.Else2 = search in
+    let else1 : tie.Else1 = search in
+    let at-start : tie.Start = search in
+    let b = at-start .args .b .now in
+    rw (length-records (length b / 28) b, eq-eqb _ _ (else1 .if1 .left), le-leb _ _ (else2 .if2 .left)) (c .all-well-formed .ensures)
 
 pub records-ok-spec : {M : Type 1} → statement M
 records-ok-spec = tie.close (tie.spec returns returns-2 (search needs) returns-3)

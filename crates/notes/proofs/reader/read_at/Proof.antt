@@ -14,8 +14,10 @@ use Rattle.notes.proofs.reader.read_at.Statement.{statement}
 use Rattle.notes.proofs.reader.read_at.Tie as tie
 
 -- a whole record stands there
-fits : (c : tie.Then1) → recordSize ≤ length (c .before .before .before .args .m .now) - c .before .before .before .args .at
-fits c = leb-true _ _ (sym (c .before .whole-at .ensures) ∙ c .if1 .taken)
+fits : (c : tie.Then1) → let at-start : tie.Start = search in recordSize ≤ length (at-start .args .m .now) - at-start .args .at
+fits c =
+    let after-whole-at : tie.After-whole-at = search in
+    leb-true _ _ (sym (after-whole-at .whole-at .ensures) ∙ c .if1 .taken)
 
 add-decoded : tie.Need-add-decoded
 add-decoded c = let l = fits c in omega arith
@@ -31,19 +33,26 @@ part-decoded-end c = let l = fits c in omega arith
 
 decoded-requires : tie.Need-decoded-requires
 decoded-requires c κs =
-    let l = fits (c .before) in rw (add-sub-cancel-left, length-take, length-drop) (omega arith)
+    let then1 : tie.Then1 = search in
+    let l = fits then1 in rw (add-sub-cancel-left, length-take, length-drop) (omega arith)
 
 returns : tie.Need-returns
 returns c =
-    let a = c .before .before .before .before .before .args in
+    let then1 : tie.Then1 = search in
+    let after-whole-at : tie.After-whole-at = search in
+    let at-start : tie.Start = search in
+    let a = at-start .args in
     (λ i. record { found = true; write = (rw add-sub-cancel-left at (c .decoded .ensures)) i })
-    ∙ sym (read-found (a .m .now) (a .at) (sym (c .before .before .before .whole-at .ensures) ∙ c .before .before .if1 .taken))
+    ∙ sym (read-found (a .m .now) (a .at) (sym (after-whole-at .whole-at .ensures) ∙ then1 .if1 .taken))
 
 returns-2 : tie.Need-returns-2
 returns-2 c =
-    let a = c .before .before .before .before .before .args in
+    let else1 : tie.Else1 = search in
+    let after-whole-at : tie.After-whole-at = search in
+    let at-start : tie.Start = search in
+    let a = at-start .args in
     (λ i. record { found = false; write = c .from-bytes .ensures i })
-    ∙ sym (read-none (a .m .now) (a .at) (sym (c .before .before .before .whole-at .ensures) ∙ c .before .before .if1 .left))
+    ∙ sym (read-none (a .m .now) (a .at) (sym (after-whole-at .whole-at .ensures) ∙ else1 .if1 .left))
 
 pub read-at-spec : {M : Type 1} → statement M
 read-at-spec =

@@ -9,7 +9,9 @@ use Rattle.notes.proofs.reader.whole_at.Statement.{statement}
 use Rattle.notes.proofs.reader.whole_at.Tie as tie
 
 returns : tie.Need-returns
-returns c = let a = c .before .args in sym (lt-leb recordSize (a .len - a .at) (omega arith))
+returns c =
+    let at-start : tie.Start = search in
+    let a = at-start .args in sym (lt-leb recordSize (a .len - a .at) (omega arith))
 
 -- what the code compares with is what the statement does
 returns-2 : tie.Need-returns-2

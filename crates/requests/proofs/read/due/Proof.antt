@@ -8,7 +8,8 @@ use Rattle.requests.proofs.read.due.Tie as tie
 returns : tie.Need-returns
 unfolding due
 returns c =
-    λ cell. rw (c .before .before .is-in .ensures)
+    let told : tie.After-is-in = search in
+    λ cell. rw (told .is-in .ensures)
 
 pub due-spec : {M : Type 1} → statement M
 due-spec =

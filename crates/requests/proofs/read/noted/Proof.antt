@@ -9,12 +9,15 @@ use Rattle.requests.proofs.read.noted.Tie as tie
 returns : tie.Need-returns
 unfolding noted
 returns c =
-    λ cell. rw (sym (c .before .is-in .ensures) ∙ c .if1 .taken)
+    let told : tie.After-is-in = search in
+    λ cell. rw (sym (told .is-in .ensures) ∙ c .if1 .taken)
 
 returns-2 : tie.Need-returns-2
 unfolding noted
 returns-2 c =
-    λ cell. rw (sym (c .before .before .before .before .is-in .ensures) ∙ c .before .before .before .if1 .left, c .with-phone .ensures)
+    let new : tie.Else1 = search in
+    let told : tie.After-is-in = search in
+    λ cell. rw (sym (told .is-in .ensures) ∙ new .if1 .left, c .with-phone .ensures)
 
 pub noted-spec : {M : Type 1} → statement M
 noted-spec =

@@ -1,36 +1,42 @@
 -- `read::read` meets its contract: all the stores, the winner's value, and the state that the read leaves.
 -- Assumes nothing.
-use Rattle.rules.specs.Memory.{memory}
-use Rattle.requests.proofs.Served.{held-most, room, kept-fits, read-plan-all, read-served}
+use Rattle.rules.specs.Memory.{Memory, memory}
+use Rattle.rules.specs.Image.{checkpointCount}
+use Rattle.rules.specs.declared.event.Request.the-variants.{Read}
+use Rattle.requests.specs.Forms.{Room}
+use Rattle.requests.proofs.Served.{room, read-plan-all, read-served}
 use borrow.Author.Needs.{needs}
 use Rattle.requests.proofs.read.read.Statement.{statement}
 use Rattle.requests.proofs.read.read.Tie as tie
 
+abbrev found : tie.Start → Memory
+found s = memory (s .args .s) (s .args .history .now) (s .args .image .now)
+
+roomy : (s : tie.Start) → Room (s .args .s .held) (checkpointCount (s .args .image .now)) (s .args .history .now) (s .args .image .now)
+roomy s = room (found s) (s .args .phone) (Read (s .args .cell)) (s .pre)
+
 store-due-requires : tie.Need-store-due-requires
 store-due-requires c κs =
-    let a = c .before .before .before .before .before .args in
-    let p = c .before .before .before .before .before .pre in
-    let m = memory (a .s) (a .history .now) (a .image .now) in
-    (room m (p .1) (p .2) (p .3) (p .0), p .1, kept-fits m (p .1) (p .2) (p .3), held-most m (p .1) (p .2) (p .3), p .4)
+    let s : tie.Start = search in
+    (roomy s, s .pre .phone)
 
 winner-requires : tie.Need-winner-requires
-winner-requires c κs =
-    let a = c .before .before .before .before .before .before .before .before .args in
-    let p = c .before .before .before .before .before .before .before .before .pre in
-    room (memory (a .s) (a .history .now) (a .image .now)) (p .1) (p .2) (p .3) (p .0)
+winner-requires c κs = roomy (search) .history
 
 returns : tie.Need-returns
 returns c =
-    let a = c .before .before .before .before .before .before .before .before .before .before .before .args in
-    let p = c .before .before .before .before .before .before .before .before .before .before .before .pre in
-    let m = memory (a .s) (a .history .now) (a .image .now) in
+    let told : tie.After-answer = search in
+    let won : tie.After-winner = search in
+    let stores : tie.After-store-due = search in
+    let s : tie.Start = search in
+    let a = s .args in
     rw (
-      c .before .answer .ensures,
+      told .answer .ensures,
       c .ready .ensures (a .cell),
-      c .before .before .before .before .before .store-due .ensures (a .cell),
-      read-plan-all m (a .phone) (a .cell) (room m (p .1) (p .2) (p .3) (p .0)) (kept-fits m (p .1) (p .2) (p .3)),
+      stores .store-due .ensures (a .cell),
+      read-plan-all (found s) (a .phone) (a .cell) (roomy s),
     )
-    (read-served m (a .phone) (a .cell) (c .before .before .winner .result) (c .before .before .winner .ensures))
+    (read-served (found s) (a .phone) (a .cell) (won .winner .result) (won .winner .ensures))
 
 pub read-spec : {M : Type 1} → statement M
 read-spec =

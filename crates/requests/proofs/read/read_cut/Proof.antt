@@ -2,22 +2,25 @@
 -- Assumes nothing.
 use Rattle.rules.specs.Memory.{memory}
 use Rattle.rules.specs.Request.{cutAfter}
-use Rattle.requests.proofs.Served.{held-most, room, kept-fits}
+use Rattle.rules.specs.declared.event.Request.the-variants.{Read}
+use Rattle.requests.proofs.Served.{room}
 use borrow.Author.Needs.{needs}
 use Rattle.requests.proofs.read.read_cut.Statement.{statement}
 use Rattle.requests.proofs.read.read_cut.Tie as tie
 
 store-due-requires : tie.Need-store-due-requires
 store-due-requires c κs =
-    let a = c .before .before .before .args in
-    let p = c .before .before .before .pre in
-    let m = memory (a .s) (a .history .now) (a .image .now) in
-    (room m (p .1) (p .2) (p .3) (p .0), p .1, kept-fits m (p .1) (p .2) (p .3), held-most m (p .1) (p .2) (p .3), p .4)
+    let s : tie.Start = search in
+    let a = s .args in
+    (room (memory (a .s) (a .history .now) (a .image .now)) (a .phone) (Read (a .cell)) (s .pre), s .pre .phone)
 
 returns : tie.Need-returns
 unfolding cutAfter
 returns c =
-    rw (c .finished .ensures, c .before .down .ensures, c .before .before .before .before .store-due .ensures (c .before .before .before .before .before .before .before .before .args .cell))
+    let down : tie.After-down = search in
+    let stores : tie.After-store-due = search in
+    let s : tie.Start = search in
+    rw (c .finished .ensures, down .down .ensures, stores .store-due .ensures (s .args .cell))
 
 pub read-cut-spec : {M : Type 1} → statement M
 read-cut-spec =

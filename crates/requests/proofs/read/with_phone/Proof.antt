@@ -14,7 +14,8 @@ use Rattle.requests.proofs.read.with_phone.Tie as tie
 returns : tie.Need-returns
 unfolding withPhone
 returns c =
-    ap (bitOr (c .before .args .cr)) (shl-exact 1 (c .before .args .phone .0) 64 (lit< tt) (omega (arith, c .before .pre)) ∙ one-mul _)
+    let s : tie.Start = search in
+    ap (bitOr (s .args .cr)) (shl-exact 1 (s .args .phone .0) 64 (lit< tt) (omega (arith, s .pre)) ∙ one-mul _)
 
 pub with-phone-spec : {M : Type 1} → statement M
 with-phone-spec = tie.close (tie.spec (search needs) (search needs) returns)

@@ -13,19 +13,23 @@ use Rattle.requests.proofs.stores.store_bytes.Tie as tie
 
 slice-aggregate-copy : tie.Need-slice-aggregate-copy
 slice-aggregate-copy c =
-    let a = c .before .before .before .before .args in
-    let e : c .before .least .result ≡ min (a .k) (length (a .from .now)) = c .before .least .ensures in
-    let few : c .before .least .result ≤ length (a .from .now) = omega arith in
-    sym (length-take-le (c .before .least .result) (a .from .now) few)
+    let first : tie.After-least = search in
+    let s : tie.Start = search in
+    let e : first .least .result ≡ min (s .args .k) (length (s .args .from .now)) = first .least .ensures in
+    let few : first .least .result ≤ length (s .args .from .now) = omega arith in
+    sym (length-take-le (first .least .result) (s .args .from .now) few)
 
 copy-requires : tie.Need-copy-requires
 copy-requires c κs = simp (length-take, length-drop) (omega arith)
 
 returns : tie.Need-returns
 returns c =
-    let a = c .before .before .before .before .before .before .before .before .args in
-    put-rest (a .place) (a .image .now) (take (c .before .before .before .before .before .least .result) (a .from .now)) (c .before .before .copy .last .1 .0) (rw length-take (omega arith)) (c .before .before .copy .ensures .1)
-    ∙ rw (c .before .before .before .before .before .least .ensures, take-least (a .k) (a .from .now))
+    let copied : tie.After-copy = search in
+    let first : tie.After-least = search in
+    let s : tie.Start = search in
+    let a = s .args in
+    put-rest (a .place) (a .image .now) (take (first .least .result) (a .from .now)) (copied .copy .last .1 .0) (rw length-take (omega arith)) (copied .copy .ensures .1)
+    ∙ rw (first .least .ensures, take-least (a .k) (a .from .now))
 
 pub store-bytes-spec : {M : Type 1} → statement M
 store-bytes-spec =

@@ -7,8 +7,10 @@ use Rattle.requests.proofs.winner.beats.Tie as tie
 
 returns : tie.Need-returns
 returns c =
-    let a = rw add-sub-cancel-left at (c .before .before .before .decoded .ensures) in
-    let b = rw add-sub-cancel-left at (c .before .decoded2 .ensures) in
+    let other : tie.After-decoded2 = search in
+    let this : tie.After-decoded = search in
+    let a = rw add-sub-cancel-left at (this .decoded .ensures) in
+    let b = rw add-sub-cancel-left at (other .decoded2 .ensures) in
     rw (c .beats .ensures, a, b)
 
 pub beats-spec : {M : Type 1} → statement M

@@ -20,36 +20,41 @@ abbrev μ-loop : tie.MeasureT-loop
 
 loop-holds : tie.Need-loop-holds Inv-loop μ-loop
 loop-holds c =
-    let a = c .before .args in (search needs, leads-none (a .cell) (a .held) (a .history .now))
+    let s : tie.Start Inv-loop μ-loop = search in
+    (search needs, leads-none (s .args .cell) (s .args .held) (s .args .history .now))
 
 loop-again : tie.Need-loop-again Inv-loop μ-loop
 loop-again c =
-    let a = c .before .before .before .before .args in
-    let l = c .before .before .loop in (
+    let turn : tie.In-loop Inv-loop μ-loop = search in
+    let l : tie.At-loop Inv-loop μ-loop = search in
+    let s : tie.Start Inv-loop μ-loop = search in
+    let a = s .args in (
       search needs,
-      leads-more (a .cell) (a .held) (a .history .now) (l .k) (l .best) (c .better .result)
-          (c .before .loop-test .taken) (l .inv .1) (c .better .ensures),
+      leads-more (a .cell) (a .held) (a .history .now) (l .loop .k) (l .loop .best) (c .better .result) (turn .loop-test .taken) (l .loop .inv .1) (c .better .ensures),
     )
 
 returns : tie.Need-returns Inv-loop μ-loop
 returns c =
-    let a = c .before .before .before .before .args in
-    let l = c .before .before .loop in
-    won-none (a .cell) (a .held) (a .history .now) (l .k) (l .best) (c .before .loop-test .left) (l .inv .1) (c .if1 .taken)
+    let all : tie.After-loop Inv-loop μ-loop = search in
+    let l : tie.At-loop Inv-loop μ-loop = search in
+    let s : tie.Start Inv-loop μ-loop = search in
+    let a = s .args in
+    won-none (a .cell) (a .held) (a .history .now) (l .loop .k) (l .loop .best) (all .loop-test .left) (l .loop .inv .1) (c .if1 .taken)
 
 u32-at-requires : tie.Need-u32-at-requires Inv-loop μ-loop
-u32-at-requires c κs =
-    simp (add-sub-cancel-left, length-take, length-drop) (omega arith)
+u32-at-requires c κs = simp (add-sub-cancel-left, length-take, length-drop) (omega arith)
 
 returns-2 : tie.Need-returns-2 Inv-loop μ-loop
 unfolding decode
 returns-2 c =
-    let a = c .before .before .before .before .before .before .args in
-    let l = c .before .before .before .before .loop in
-    let e = rw add-sub-cancel-left at (c .u32-at .ensures) in
-    ap some e
-    ∙ won-some (a .cell) (a .held) (a .history .now) (l .k) (l .best)
-    (c .before .before .before .loop-test .left) (l .inv .1) (c .before .before .if1 .left)
+    let some-best : tie.Else1 Inv-loop μ-loop = search in
+    let all : tie.After-loop Inv-loop μ-loop = search in
+    let l : tie.At-loop Inv-loop μ-loop = search in
+    let s : tie.Start Inv-loop μ-loop = search in
+    let a = s .args in
+    let value = rw add-sub-cancel-left at (c .u32-at .ensures) in
+    ap some value
+    ∙ won-some (a .cell) (a .held) (a .history .now) (l .loop .k) (l .loop .best) (all .loop-test .left) (l .loop .inv .1) (some-best .if1 .left)
 
 pub winner-spec : {M : Type 1} → statement M
 winner-spec =

@@ -1,66 +1,76 @@
 -- `write::write` meets its contract: the record's stores, the history, and the state.
 -- Assumes nothing.
-use mathlib.Core.Path.{ap, _∙_}
-use native.Mathlib.Omega.{arith}
+use Prim.Native.Nat.{ℕ, _<_, _*_, _+_, _≤_}
 use mathlib.Core.List.{List}
-use Prim.Native.Nat.{ℕ}
-use lib.ListN.{length}
-use Rattle.notes.specs.Record.{encode}
-use Rattle.rules.specs.Memory.{memory}
-use Rattle.rules.specs.Request.{newRecord}
-use Rattle.sound.specs.declared.image.Image.{Image}
-use Rattle.requests.proofs.Written.{small, new-size, write-made}
+use mathlib.Core.Path.{_≡_, refl, ap, sym, _∙_}
+use native.Mathlib.Omega.{arith}
+use lib.ListN.{length, length-take, length-drop}
+use Rattle.notes.specs.Record.{recordSize}
+use Rattle.notes.specs.Message.{historyMost}
+use Rattle.notes.proofs.Lists.{put-rest}
+use Rattle.rules.specs.Memory.{Memory, memory}
+use Rattle.rules.specs.declared.event.Request.the-variants.{Write}
+use Rattle.requests.specs.Forms.{Small}
+use Rattle.requests.proofs.Written.{small, new-size, plan-whole, write-served}
 use borrow.Author.Needs.{needs}
 use Rattle.requests.proofs.write.write.Statement.{statement}
 use Rattle.requests.proofs.write.write.Tie as tie
 
-new-record-requires : tie.Need-new-record-requires
-new-record-requires c κs =
-    let a = c .before .before .args in
-    small (memory (a .s) (a .history .now) (a .image .now)) (c .before .before .pre .1) (c .before .before .pre .3) (c .before .before .pre .2) .own
+abbrev found : tie.Start → Memory
+found s = memory (s .args .s) (s .args .history .now) (s .args .image .now)
 
-store-write-requires : tie.Need-store-write-requires
-store-write-requires c κs =
-    let l = ap (λ (i : Image). i .log) (c .before .before .counts .ensures) in
-    (c .before .before .before .before .before .before .before .before .pre .1, search needs, omega (arith, l, c .before .before .before .before .before .before .before .before .pre .5))
+few : (s : tie.Start) → Small (s .args .s)
+few s = small (found s) (s .args .phone) (Write (s .args .cell) (s .args .value) (s .args .time)) (s .pre)
 
-new-vector-requires : tie.Need-new-vector-requires
-new-vector-requires c κs =
-    let a = c .before .before .before .before .before .before .before .before .before .before .before .before .before .before .before .before .before .args in
-    small (memory (a .s) (a .history .now) (a .image .now)) (c .before .before .before .before .before .before .before .before .before .before .before .before .before .before .before .before .before .pre .1) (c .before .before .before .before .before .before .before .before .before .before .before .before .before .before .before .before .before .pre .3) (c .before .before .before .before .before .before .before .before .before .before .before .before .before .before .before .before .before .pre .2) .own
+-- the history has room for one record more
+room : (s : tie.Start) → recordSize * s .args .s .held + recordSize ≤ length (s .args .history .now)
+room s =
+    let one : s .args .s .held < historyMost = s .pre .room refl in
+    omega (arith, one, s .pre .head .history)
 
-one-more-requires : tie.Need-one-more-requires
-one-more-requires c κs =
-    let a = c .before .before .before .before .before .before .before .before .before .before .before .before .before .before .before .before .before .before .args in
-    let k = small (memory (a .s) (a .history .now) (a .image .now)) (c .before .before .before .before .before .before .before .before .before .before .before .before .before .before .before .before .before .before .pre .1) (c .before .before .before .before .before .before .before .before .before .before .before .before .before .before .before .before .before .before .pre .3) (c .before .before .before .before .before .before .before .before .before .before .before .before .before .before .before .before .before .before .pre .2) in
-    (k .own, k .held, k .nwrites)
+size : (c : tie.After-store-new) → length (c .store-new .result) ≡ recordSize
+size c =
+    let s : tie.Start = search in
+    let a = s .args in
+    ap (λ (b : List ℕ). length b) (c .store-new .ensures .bytes) ∙ new-size (found s) (a .phone) _ (s .pre) (a .phone) (a .cell) (a .value) (a .time)
+
+sub-copy : tie.Need-sub-copy
+sub-copy c = omega (arith, room (search))
+
+part-copy-start : tie.Need-part-copy-start
+part-copy-start c = omega (arith, room (search))
+
+copy-requires : tie.Need-copy-requires
+copy-requires c κs =
+    let stores : tie.After-store-new = search in
+    simp (length-take, length-drop) (omega (arith, size stores, room (search)))
 
 returns : tie.Need-returns
-unfolding newRecord
 returns c =
-    let a = c .before .before .before .before .before .before .before .before .before .before .before .before .before .before .before .before .before .before .before .args in
-    let m = memory (a .s) (a .history .now) (a .image .now) in
-    let l = ap (λ (i : Image). i .log) (c .before .before .before .before .before .before .before .before .before .before .before .before .before .counts .ensures) in
-    let bytes = c .before .before .before .before .before .before .before .before .before .before .before .before .before .before .before .to-bytes .ensures ∙ ap encode (c .before .before .before .before .before .before .before .before .before .before .before .before .before .before .before .before .new-record .ensures) in
-    let size = ap (λ (b : List ℕ). length b) bytes ∙ new-size m (a .phone) (a .cell) (a .value) (a .time) (c .before .before .before .before .before .before .before .before .before .before .before .before .before .before .before .before .before .before .before .pre .1) (c .before .before .before .before .before .before .before .before .before .before .before .before .before .before .before .before .before .before .before .pre .3) (c .before .before .before .before .before .before .before .before .before .before .before .before .before .before .before .before .before .before .before .pre .2) in
-    rw (c .one-more .ensures, c .before .new-vector .ensures, c .before .before .before .before .store-bytes .ensures, c .before .before .before .before .before .before .before .before .before .before .store-write .ensures)
-    (write-made m (a .phone) (a .cell) (a .value) (a .time) (c .before .before .before .before .before .before .before .before .before .before .before .before .before .before .before .to-bytes .result) bytes (c .before .before .before .before .before .before .before .before .before .before .before .before .before .counts .result .log) l 29 28 size (omega arith) (omega arith))
+    let vector : tie.After-new-vector = search in
+    let held : tie.After-copy = search in
+    let stores : tie.After-store-new = search in
+    let s : tie.Start = search in
+    let a = s .args in
+    let performed = put-rest (recordSize * a .s .held) (a .history .now) (stores .store-new .result) (held .copy .last .1 .0) (omega (arith, size stores, room s)) (held .copy .ensures .1) in
+    let whole = plan-whole (found s) (a .phone) (a .cell) (a .value) (a .time) (s .pre) 29 (omega arith) in
+    rw (c .one-more .ensures, vector .new-vector .ensures, performed, stores .store-new .ensures .image, stores .store-new .ensures .bytes, whole)
+    (sym (write-served (found s) (a .phone) (a .cell) (a .value) (a .time) (s .pre)))
 
 pub write-spec : {M : Type 1} → statement M
 write-spec =
     tie.close
     (tie.spec
-    new-record-requires
+    (λ c κs. search needs)
     (search needs)
     (search needs)
     (search needs)
-    store-write-requires
+    sub-copy
+    part-copy-start
     (search needs)
-    (search needs)
-    (search needs)
-    (search needs)
-    new-vector-requires
-    one-more-requires
+    copy-requires
+    (λ c κs. few (search))
+    (λ c κs. few (search))
     (search needs)
     (search needs)
     returns)

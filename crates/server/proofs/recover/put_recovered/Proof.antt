@@ -12,23 +12,24 @@ use Rattle.server.proofs.recover.put_recovered.Tie as tie
 
 returns : tie.Need-returns
 returns c =
-    let s = c .before .before .before .before .before .before .before .before .before .before .before .before .before .before .before .before .before .before in
+    let zeros : tie.After-zero = search in
+    let logged : tie.After-copy2 = search in
+    let kept : tie.After-copy = search in
+    let s : tie.Start = search in
     let a = s .args in
-    let one = c .before .before .before .before .before .before .before .before .before .before .before .copy in
-    let two = c .before .before .before .before .before .before .copy2 in
     let k = recordSize * a .counts .checkpoint in
     let j = recordSize * a .added in
     let p = logPlace (a .counts .log - a .added) in
-    let e : historySize - (k + j) ≡ historySize - recordSize * (a .counts .checkpoint + a .added) = omega arith in
-    put-parts checkpointAt k p j historySize (a .image .now) (a .history .now) (one .last .1 .0) (two .last .1 .0) _
-    (omega (arith, s .pre .1, s .pre .2))
-    (omega (arith, s .pre .1, s .pre .3, s .pre .4))
-    (omega (arith, s .pre .2))
-    (s .pre .0)
-    (one .ensures .1)
-    (two .ensures .1)
-    (c .before .before .zero .ensures)
-    ∙ rw e
+    let rest : historySize - (k + j) ≡ historySize - recordSize * (a .counts .checkpoint + a .added) = omega arith in
+    put-parts checkpointAt k p j historySize (a .image .now) (a .history .now) (kept .copy .last .1 .0) (logged .copy2 .last .1 .0) _
+    (omega (arith, s .pre .image, s .pre .few))
+    (omega (arith, s .pre .image, s .pre .fits, s .pre .logged))
+    (omega (arith, s .pre .few))
+    (s .pre .history)
+    (kept .copy .ensures .1)
+    (logged .copy2 .ensures .1)
+    (zeros .zero .ensures)
+    ∙ rw rest
 
 pub put-recovered-spec : {M : Type 1} → statement M
 put-recovered-spec =

@@ -15,7 +15,10 @@ unfolding decode
 origin-is w = λ j. record { 0 = from-one 0 w j }
 
 returns : tie.Need-returns
-returns c = rw (c .raised .ensures, c .before .number-of .ensures, origin-is (c .before .before .before .before .args .write .now))
+returns c =
+    let told : tie.After-number-of = search in
+    let s : tie.Start = search in
+    rw (c .raised .ensures, told .number-of .ensures, origin-is (s .args .write .now))
 
 pub after-spec : {M : Type 1} → statement M
 after-spec = tie.close (tie.spec (search needs) (search needs) (search needs) returns)

@@ -10,18 +10,24 @@ use Rattle.server.proofs.update.suitable.Tie as tie
 
 returns : tie.Need-returns
 returns c =
-    let a = c .before .before .before .before .args in
-    sym (unsuited-refused (memory (a .s) [] []) (a .message .now) _ _ (c .before .before .check .ensures) (c .enum-told .given .1))
+    let told : tie.After-check = search in
+    let s : tie.Start = search in
+    sym (unsuited-refused (memory (s .args .s) [] []) (s .args .message .now) _ _ (told .check .ensures) (c .enum-told .given .1))
 
 returns-2 : tie.Need-returns-2
 returns-2 c =
-    let a = c .before .before .before .before .before .before .before .before .args in
-    sym (unsuited-n (memory (a .s) [] []) (a .message .now) _ _ (c .before .before .before .before .before .before .check .ensures) (c .before .before .before .before .h .given .1) (c .if1 .taken))
+    let h : tie.After-h = search in
+    let told : tie.After-check = search in
+    let s : tie.Start = search in
+    sym (unsuited-n (memory (s .args .s) [] []) (s .args .message .now) _ _ (told .check .ensures) (h .h .given .1) (c .if1 .taken))
 
 returns-3 : tie.Need-returns-3
 returns-3 c =
-    let a = c .before .before .before .before .before .before .before .before .before .before .before .before .args in
-    sym (suited-decides (memory (a .s) [] []) (a .message .now) _ _ (c .before .before .before .before .before .before .before .before .before .before .check .ensures) (c .before .before .before .before .before .before .before .before .h .given .1) (c .before .before .before .before .if1 .left))
+    let same-n : tie.Else1 = search in
+    let h : tie.After-h = search in
+    let told : tie.After-check = search in
+    let s : tie.Start = search in
+    sym (suited-decides (memory (s .args .s) [] []) (s .args .message .now) _ _ (told .check .ensures) (h .h .given .1) (same-n .if1 .left))
 
 pub suitable-spec : {M : Type 1} → statement M
 suitable-spec =

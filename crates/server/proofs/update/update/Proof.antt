@@ -1,18 +1,21 @@
 -- `update::update` meets its contract: what is refused, or the new writes behind those held.
 -- Assumes nothing.
 use Prim.Native.Nat.{_+_, _≤_}
+use mathlib.Core.Bool.{true}
 use mathlib.Core.Option.{none}
 use mathlib.Core.Path.{_≡_, sym, ap, _∙_}
 use native.Mathlib.Omega.{arith}
 use lib.ListN.{length}
+use Rattle.notes.specs.Lists.{every}
 use Rattle.notes.specs.Message.{headerSize, historyMost, brought}
 use Rattle.notes.specs.Reply.{first}
 use Rattle.rules.specs.Memory.{Memory, memory}
-use Rattle.rules.specs.Step.{Taken, takenFrom}
-use Rattle.sound.specs.Tests.{headRefusal}
-use Rattle.server.specs.Take.{Seen, takesOf, seen, arrivalRefusals}
+use Rattle.rules.specs.Answer.{verdictRefusal}
+use Rattle.rules.specs.Step.{Taken, takenFrom, arrivalRefusals}
+use Rattle.laws.proofs.Passed.{Arrived, arrived}
+use Rattle.server.specs.Forms.{originOk, Seen, takesOf, seen}
 use Rattle.server.proofs.Taking.{taken-ahead}
-use Rattle.server.proofs.Updating.{brought-at, length-brought, arrived-head, arrived-few, arrived-long, arrived-origins, update-refused, update-stopped, update-full, update-done, update-same}
+use Rattle.server.proofs.Updating.{brought-at, brought-listed, arrived-few, arrived-long, arrived-origins, update-refused, update-stopped, update-full, update-done, update-same}
 use borrow.Author.Needs.{needs}
 use Rattle.server.proofs.update.update.Statement.{statement}
 use Rattle.server.proofs.update.update.Tie as tie
@@ -24,131 +27,136 @@ found s = memory (s .args .s) (s .args .history .now) (s .args .image .now)
 abbrev turns : tie.Start → Taken
 turns s = takenFrom (found s) (s .args .message .now)
 
+abbrev start : tie.After-enum-told → tie.Start
+start c = search
+
 -- nothing is refused before the writes
-arrived :
-    (c : tie.After-enum-told)
-    → let s = c .before .before .before .before .before .before .before in
-    first (arrivalRefusals (found s) (s .args .at) (s .args .message .now)) ≡ none
-arrived c = sym (c .before .before .arrival .ensures) ∙ ap headRefusal (c .enum-told .given .1)
+unrefused : (c : tie.After-enum-told) → let s : tie.Start = search in first (arrivalRefusals (found s) (s .args .at) (s .args .message .now)) ≡ none
+unrefused c =
+    let told : tie.After-arrival = search in
+    sym (told .arrival .ensures) ∙ ap verdictRefusal (c .enum-told .given .1)
 
-long : (c : tie.After-enum-told) → headerSize ≤ length (c .before .before .before .before .before .before .before .args .message .now)
+here : (c : tie.After-enum-told) → let s : tie.Start = search in Arrived (found s) (s .args .at) (s .args .message .now)
+here c =
+    let s : tie.Start = search in
+    arrived (found s) (s .args .at) (s .args .message .now) (unrefused c)
+
+long : (c : tie.After-enum-told) → let s : tie.Start = search in headerSize ≤ length (s .args .message .now)
 long c =
-    let s = c .before .before .before .before .before .before .before in
-    arrived-long (found s) (s .args .at) (s .args .message .now) (arrived c)
+    let s : tie.Start = search in
+    arrived-long (found s) (s .args .at) (s .args .message .now) (here c)
 
-gave : (c : tie.After-in-turn) → takesOf (c .in-turn .result) ≡ seen (turns (c .before .before .before .before .before .before .before .before .before))
-gave c = rw (brought-at (c .before .before .before .before .before .before .before .before .before .args .message .now)) at (c .in-turn .ensures)
+few : (c : tie.After-enum-told) → let s : tie.Start = search in s .args .s .held ≤ historyMost
+few c =
+    let s : tie.Start = search in
+    arrived-few (found s) (s .args .at) (s .args .message .now) (here c)
 
-fits : (c : tie.After-enum-told2) → turns (c .before .before .before .before .before .before .before .before .before .before .before) .refusal ≡ none
-fits c = sym (ap (λ (x : Seen). x .refusal) (gave (c .before .before))) ∙ ap headRefusal (c .enum-told2 .given .1)
+-- the writes in turn, as the walk gave them
+gave : (c : tie.After-in-turn) → let s : tie.Start = search in takesOf (c .in-turn .result) ≡ seen (turns s)
+gave c =
+    let s : tie.Start = search in
+    rw (brought-at (s .args .message .now)) at (c .in-turn .ensures)
 
-room :
-    (c : tie.Else1)
-    → let s = c .before .before .before .before .before .before .before .before .before .before .before .before .before .before in
-    s .args .s .held + length (turns s .new) ≤ historyMost
-room c =
-    let s = c .before .before .before .before .before .before .before .before .before .before .before .before .before .before in
-    let few = arrived-few (found s) (s .args .at) (s .args .message .now) (arrived (c .before .before .before .before .before .before .before)) in
-    omega (arith, few, c .if1 .left, ap (λ (x : Seen). x .new) (gave (c .before .before .before .before .before)))
+new : (c : tie.After-in-turn) → let s : tie.Start = search in c .in-turn .result .new ≡ length (turns s .new)
+new c = ap (λ (x : Seen). x .new) (gave c)
+
+vector : (c : tie.After-in-turn) → let s : tie.Start = search in c .in-turn .result .vector ≡ turns s .vector
+vector c = ap (λ (x : Seen). x .vector) (gave c)
+
+fits : (c : tie.After-enum-told2) → let s : tie.Start = search in turns s .refusal ≡ none
+fits c =
+    let told : tie.After-in-turn = search in
+    sym (ap (λ (x : Seen). x .refusal) (gave told)) ∙ ap verdictRefusal (c .enum-told2 .given .1)
+
+room : (c : tie.Else1) → let s : tie.Start = search in s .args .s .held + length (turns s .new) ≤ historyMost
+room c = omega (arith, few (search), c .if1 .left, new (search))
+
+origins : (c : tie.After-enum-told) → let s : tie.Start = search in every originOk (brought (s .args .message .now)) ≡ true
+origins c =
+    let s : tie.Start = search in
+    arrived-origins (found s) (s .args .at) (s .args .message .now) (here c)
 
 returns : tie.Need-returns
 returns c =
-    let s = c .before .before .before .before .before .before .before .before .before in
+    let k : tie.After-k = search in
+    let told : tie.After-arrival = search in
+    let s : tie.Start = search in
     rw (
       c .refused .ensures,
-      update-refused (found s) (s .args .at) (s .args .message .now) _ (sym (c .before .before .before .before .arrival .ensures) ∙ ap headRefusal (c .before .before .k .given .1)),
+      update-refused (found s) (s .args .at) (s .args .message .now) _ (sym (told .arrival .ensures) ∙ ap verdictRefusal (k .k .given .1)),
     )
-
-sub-count : tie.Need-sub-count
-sub-count c =
-    omega (arith, long c)
-
-sub-in-turn : tie.Need-sub-in-turn
-sub-in-turn c =
-    omega (arith, long c)
-
-part-in-turn-start : tie.Need-part-in-turn-start
-part-in-turn-start c =
-    omega (arith, long c)
 
 in-turn-requires : tie.Need-in-turn-requires
 in-turn-requires c κs =
-    let s = c .before .before .before .before .before .before .before .before in
-    let msg = s .args .message .now in
-    (length-brought msg, rw (brought-at msg) (arrived-origins (found s) (s .args .at) msg (arrived (c .before))))
+    let s : tie.Start = search in
+    brought-listed (s .args .message .now) (origins (search))
 
 returns-2 : tie.Need-returns-2
 returns-2 c =
-    let s = c .before .before .before .before .before .before .before .before .before .before .before .before .before in
-    let p = c .before .before .before .before in
+    let k : tie.After-refusal = search in
+    let told : tie.After-in-turn = search in
+    let came : tie.After-enum-told = search in
+    let s = start came in
     rw (
       c .refused2 .ensures,
-      update-stopped (found s) (s .args .at) (s .args .message .now) (arrived (p .before .before)) _ (sym (ap (λ (x : Seen). x .refusal) (gave p)) ∙ ap headRefusal (c .before .before .refusal .given .1)),
+      update-stopped (found s) (s .args .at) (s .args .message .now) (unrefused came) _ (sym (ap (λ (x : Seen). x .refusal) (gave told)) ∙ ap verdictRefusal (k .refusal .given .1)),
     )
-
-sub-if1 : tie.Need-sub-if1
-sub-if1 c =
-    let s = c .before .before .before .before .before .before .before .before .before .before .before .before in
-    omega (arith, arrived-few (found s) (s .args .at) (s .args .message .now) (arrived (c .before .before .before .before .before)))
 
 returns-3 : tie.Need-returns-3
 returns-3 c =
-    let s = c .before .before .before .before .before .before .before .before .before .before .before .before .before .before .before in
-    let p = c .before .before .before .before .before .before in
+    let full : tie.Then1 = search in
+    let told : tie.After-in-turn = search in
+    let came : tie.After-enum-told = search in
+    let s = start came in
     rw (
       c .refused3 .ensures,
-      update-full (found s) (s .args .at) (s .args .message .now) (arrived (p .before .before)) (fits (c .before .before .before .before)) (omega (arith, c .before .if1 .taken, ap (λ (x : Seen). x .new) (gave p))),
+      update-full (found s) (s .args .at) (s .args .message .now) (unrefused came) (fits (search)) (omega (arith, full .if1 .taken, new told)),
     )
-
-taken-requires : tie.Need-taken-requires
-taken-requires c κs =
-    omega (arith, room c, ap (λ (x : Seen). x .new) (gave (c .before .before .before .before .before)))
 
 returns-4 : tie.Need-returns-4
 returns-4 c =
-    let r = c .before .before .before .before in
-    let s = r .before .before .before .before .before .before .before .before .before .before .before .before .before .before in
-    let msg = s .args .message .now in
-    let p = r .before .before .before .before .before in
-    let new = ap (λ (x : Seen). x .new) (gave p) in
+    let none-new : tie.Then2 = search in
+    let next : tie.After-taken = search in
+    let roomy : tie.Else1 = search in
+    let fitting : tie.After-enum-told2 = search in
+    let told : tie.After-in-turn = search in
+    let came : tie.After-enum-told = search in
+    let s = start came in
     rw (
       c .finished .ensures,
-      c .before .before .before .taken .ensures,
-      new,
-      ap (λ (x : Seen). x .vector) (gave p),
-      update-same (found s) (s .args .at) msg (arrived (p .before .before)) (fits (r .before .before .before)) (room r) (sym new ∙ c .before .if2 .taken),
+      next .taken .ensures,
+      new told,
+      vector told,
+      update-same (found s) (s .args .at) (s .args .message .now) (unrefused came) (fits fitting) (room roomy) (sym (new told) ∙ none-new .if2 .taken),
     )
-
-sub-append : tie.Need-sub-append
-sub-append c =
-    omega (arith, long (c .before .before .before .before .before .before .before .before .before .before .before))
-
-part-append-start : tie.Need-part-append-start
-part-append-start c =
-    omega (arith, long (c .before .before .before .before .before .before .before .before .before .before .before))
 
 append-requires : tie.Need-append-requires
 append-requires c κs =
-    let r = c .before .before .before .before .before in
-    let s = r .before .before .before .before .before .before .before .before .before .before .before .before .before .before in
+    let roomy : tie.Else1 = search in
+    let fitting : tie.After-enum-told2 = search in
+    let came : tie.After-enum-told = search in
+    let s = start came in
     let msg = s .args .message .now in
-    let e = arrived (r .before .before .before .before .before .before .before) in
-    (length-brought msg, rw (brought-at msg) (arrived-origins (found s) (s .args .at) msg e), rw (brought-at msg, ← taken-ahead (s .args .s .own) (s .args .s .vector) (brought msg) (fits (r .before .before .before))) (omega (arith, room r, arrived-head (found s) (s .args .at) msg e .history)))
+    let ahead-are = taken-ahead (s .args .s .own) (s .args .s .vector) (brought msg) (fits fitting) in
+    (brought-listed msg (origins came), rw (brought-at msg, ← ahead-are) (omega (arith, room roomy, here came .head .history)))
 
 returns-5 : tie.Need-returns-5
 returns-5 c =
-    let r = c .before .before .before .before .before .before .before .before .before in
-    let s = r .before .before .before .before .before .before .before .before .before .before .before .before .before .before in
-    let msg = s .args .message .now in
-    let p = r .before .before .before .before .before in
+    let appended : tie.After-append = search in
+    let next : tie.After-taken = search in
+    let roomy : tie.Else1 = search in
+    let fitting : tie.After-enum-told2 = search in
+    let told : tie.After-in-turn = search in
+    let came : tie.After-enum-told = search in
+    let s = start came in
     rw (
       c .finished2 .ensures,
-      c .before .before .before .before .before .before .before .before .taken .ensures,
-      c .before .before .before .append .ensures,
-      brought-at msg,
-      ap (λ (x : Seen). x .new) (gave p),
-      ap (λ (x : Seen). x .vector) (gave p),
-      update-done (found s) (s .args .at) msg (arrived (p .before .before)) (fits (r .before .before .before)) (room r),
+      next .taken .ensures,
+      appended .append .ensures,
+      brought-at (s .args .message .now),
+      new told,
+      vector told,
+      update-done (found s) (s .args .at) (s .args .message .now) (unrefused came) (fits fitting) (room roomy),
     )
 
 pub update-spec : {M : Type 1} → statement M
@@ -161,9 +169,9 @@ update-spec =
     (search needs)
     returns
     (search needs)
-    sub-count
-    sub-in-turn
-    part-in-turn-start
+    (λ c. omega (arith, long (search)))
+    (λ c. omega (arith, long (search)))
+    (λ c. omega (arith, long (search)))
     (search needs)
     in-turn-requires
     (search needs)
@@ -172,16 +180,16 @@ update-spec =
     returns-2
     (search needs)
     (search needs)
-    sub-if1
+    (λ c. omega (arith, few (search)))
     (search needs)
     (search needs)
     returns-3
-    taken-requires
+    (λ c κs. omega (arith, room (search), new (search)))
     (search needs)
     (search needs)
     returns-4
-    sub-append
-    part-append-start
+    (λ c. omega (arith, long (search)))
+    (λ c. omega (arith, long (search)))
     (search needs)
     append-requires
     (search needs)

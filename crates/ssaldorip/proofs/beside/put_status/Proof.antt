@@ -6,14 +6,17 @@ use Rattle.ssaldorip.proofs.beside.put_status.Statement.{statement}
 use Rattle.ssaldorip.proofs.beside.put_status.Tie as tie
 
 returns : tie.Need-returns
-returns c = let a = c .before .before .args in put-short (a .count) (a .lowest) (a .reply .now) (c .if1 .taken)
+returns c =
+    let at-start : tie.Start = search in
+    let a = at-start .args in put-short (a .count) (a .lowest) (a .reply .now) (c .if1 .taken)
 
 returns-2 : tie.Need-returns-2
 returns-2 c =
-    let second = c .before .before in
-    let first = second .before .before .before .before in
-    let test = first .before .before in
-    let a = test .before .before .args in
+    let at-start : tie.Start = search in
+    let second : tie.After-put-u82 = search in
+    let first : tie.After-put-u8 = search in
+    let test : tie.Else1 = search in
+    let a = at-start .args in
     rw (second .put-u82 .ensures, first .put-u8 .ensures)
     (put-done (a .count) (a .lowest) (a .reply .now) (test .if1 .left))
 

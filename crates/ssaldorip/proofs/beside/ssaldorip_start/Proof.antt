@@ -20,17 +20,18 @@ starting s m = start (s .args .n) (server (s .args .own)) (m .history) (m .image
 
 returns : tie.Need-returns
 returns c =
-    let s = c .before .before .before .before in
+    let s : tie.Start = search in
     short-state vectorSize 0 (starting s) noReply (buffers s) (c .if1 .taken)
 
 returns-2 : tie.Need-returns-2
 returns-2 c =
-    let k = c .before .before .before .before .before .before .before .before in
-    let test = k .before .before .before in
-    let s = test .before .before .before .before in
+    let after-settled : tie.After-settled = search in
+    let k : tie.After-start = search in
+    let test : tie.Else1 = search in
+    let s : tie.Start = search in
     let l = buffers s in
     let e = effectOf (k .start .result) (k .start .last .1 .1 .0) (k .start .last .1 .1 .1 .0) in
-    rw (c .before .before .settled .ensures .0, c .before .before .settled .ensures .1)
+    rw (after-settled .settled .ensures .0, after-settled .settled .ensures .1)
     (plain-met (l .state) (l .history) (l .image) vectorSize (starting s) (start-same (s .args .n) (server (s .args .own)) l) (test .if1 .left) (omega arith) e (k .start .ensures))
 
 pub ssaldorip-start-spec : {M : Type 1} → statement M

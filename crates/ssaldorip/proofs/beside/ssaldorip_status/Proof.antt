@@ -17,33 +17,43 @@ abbrev buffers : tie.Start → Lent
 buffers s = lent (s .args .state .now) (s .args .history .now) (s .args .image .now) (s .args .reply .now)
 
 abbrev start : tie.After-status → tie.Start
-start c = c .before .before .before .before .before .before .before
+start c = search
 
 answer : (c : tie.After-status) (a : Status) → c .status .result ≡ a → told a (start c .args .reply .now) ≡ fills statusIn (buffers (start c))
 answer c a e =
+    let after-state-of : tie.After-state-of = search in
+    let else1 : tie.Else1 = search in
     let l = buffers (start c) in
     status-told a (memoryOf l) (l .reply)
     (sym (ap statusReply e)
     ∙ c .status .ensures
-    ∙ ap (λ (s : State). status (memory s (l .history) (l .image))) (c .before .state-of .ensures))
-    ∙ fills-done statusIn l (c .before .before .if1 .left)
+    ∙ ap (λ (s : State). status (memory s (l .history) (l .image))) (after-state-of .state-of .ensures))
+    ∙ fills-done statusIn l (else1 .if1 .left)
 
 returns : tie.Need-returns
-returns c = fills-short statusIn (buffers (c .before .before .before .before .before)) (c .if1 .taken)
+returns c =
+    let at-start : tie.Start = search in
+    fills-short statusIn (buffers at-start) (c .if1 .taken)
 
 returns-2 : tie.Need-returns-2
-returns-2 c = rw (c .number .ensures) (answer (c .before .before .before .before) (Refused _) (c .before .before .found .given .1))
+returns-2 c =
+    let after-found : tie.After-found = search in
+    let after-status : tie.After-status = search in
+    rw (c .number .ensures) (answer after-status (Refused _) (after-found .found .given .1))
 
 returns-3 : tie.Need-returns-3
 returns-3 c =
-    let put = c .before .before in
-    put .put-status .ensures ∙ answer (put .before .before .before .before) Nobody (put .before .before .enum-told .given .1)
+    let after-enum-told : tie.After-enum-told = search in
+    let after-status : tie.After-status = search in
+    let put : tie.After-put-status = search in
+    put .put-status .ensures ∙ answer after-status Nobody (after-enum-told .enum-told .given .1)
 
 returns-4 : tie.Need-returns-4
 returns-4 c =
-    let put = c .before .before in
-    let match = put .before .before .before in
-    put .put-status2 .ensures ∙ answer (match .before .before) (Phones _ _) (match .found2 .given .1)
+    let after-status : tie.After-status = search in
+    let put : tie.After-put-status2 = search in
+    let match : tie.After-found2 = search in
+    put .put-status2 .ensures ∙ answer after-status (Phones _ _) (match .found2 .given .1)
 
 pub ssaldorip-status-spec : {M : Type 1} → statement M
 ssaldorip-status-spec =

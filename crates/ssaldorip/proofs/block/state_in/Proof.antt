@@ -12,16 +12,21 @@ use Rattle.ssaldorip.proofs.block.state_in.Tie as tie
 returns : tie.Need-returns
 unfolding stateIn
 returns c =
-    let b = c .before .before .before .before .before .before .before .before .before .args .b .now in
+    let after-table-at : tie.After-table-at = search in
+    let after-u64-at : tie.After-u64-at = search in
+    let after-vector-at : tie.After-vector-at = search in
+    let after-u16-at : tie.After-u16-at = search in
+    let at-start : tie.Start = search in
+    let b = at-start .args .b .now in
     λ i.
     record {
       n = sym (from-one 0 b) i;
       own = record { 0 = sym (from-one 1 b) i };
       up = ap (λ (x : ℕ). eqb x 1) (sym (from-one 2 b)) i;
-      held = c .before .before .before .before .u16-at .ensures i;
-      vector = c .before .before .before .vector-at .ensures i;
-      cr = c .before .before .u64-at .ensures i;
-      rw = record { counts = c .before .table-at .ensures i };
+      held = after-u16-at .u16-at .ensures i;
+      vector = after-vector-at .vector-at .ensures i;
+      cr = after-u64-at .u64-at .ensures i;
+      rw = record { counts = after-table-at .table-at .ensures i };
       nwrites = c .u16-at2 .ensures i;
     }
 

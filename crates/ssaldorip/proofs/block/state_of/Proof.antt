@@ -9,11 +9,17 @@ use Rattle.ssaldorip.proofs.block.state_of.Tie as tie
 
 returns : tie.Need-returns
 unfolding stateOf
-returns c = rw (c .blank .ensures, sym (c .before .before .block-ok .ensures) ∙ not-true _ (c .before .if1 .taken))
+returns c =
+    let then1 : tie.Then1 = search in
+    let after-block-ok : tie.After-block-ok = search in
+    rw (c .blank .ensures, sym (after-block-ok .block-ok .ensures) ∙ not-true _ (then1 .if1 .taken))
 
 returns-2 : tie.Need-returns-2
 unfolding stateOf
-returns-2 c = rw (c .state-in .ensures, sym (c .before .before .block-ok .ensures) ∙ not-false _ (c .before .if1 .left))
+returns-2 c =
+    let else1 : tie.Else1 = search in
+    let after-block-ok : tie.After-block-ok = search in
+    rw (c .state-in .ensures, sym (after-block-ok .block-ok .ensures) ∙ not-false _ (else1 .if1 .left))
 
 pub state-of-spec : {M : Type 1} → statement M
 state-of-spec = tie.close (tie.spec (search needs) (search needs) returns (search needs) returns-2)

@@ -14,23 +14,33 @@ returns c = sym (next-short _ _ _ (c .if1 .taken))
 
 returns-2 : tie.Need-returns-2
 returns-2 c =
-    let a = c .before .before .before .before .before .before .args in
-    sym (next-none (a .message .now) (a .at) (a .out .now) (c .before .before .before .if1 .left) (sym (ap (λ x. x .found) (c .before .before .record-from .ensures)) ∙ not-true _ (c .if2 .taken)))
+    let after-record-from : tie.After-record-from = search in
+    let else1 : tie.Else1 = search in
+    let at-start : tie.Start = search in
+    let a = at-start .args in
+    sym (next-none (a .message .now) (a .at) (a .«record» .now) (else1 .if1 .left) (sym (ap (λ x. x .found) (after-record-from .record-from .ensures)) ∙ not-true _ (c .if2 .taken)))
 
 returns-3 : tie.Need-returns-3
 returns-3 c =
-    let a = c .before .before .before .before .before .before .before .before .before .before .before .before .before .before .args in
-    let read = c .before .before .before .before .before .before .before .before .before .before .record-from .ensures in
-    let found = sym (ap (λ x. x .found) read) ∙ not-false _ (c .before .before .before .before .before .before .before .before .if2 .left) in
-    let wrote = c .before .before .before .before .before .before .to-bytes .ensures ∙ ap (λ x. encode (x .write)) read in
-    let copied = c .before .before .before .copy in
+    let after-copy : tie.After-copy = search in
+    let after-to-bytes : tie.After-to-bytes = search in
+    let else2 : tie.Else2 = search in
+    let after-record-from : tie.After-record-from = search in
+    let else1 : tie.Else1 = search in
+    let at-start : tie.Start = search in
+    let a = at-start .args in
+    let read = after-record-from .record-from .ensures in
+    let found = sym (ap (λ x. x .found) read) ∙ not-false _ (else2 .if2 .left) in
+    let wrote = after-to-bytes .to-bytes .ensures ∙ ap (λ x. encode (x .write)) read in
+    let copied = after-copy .copy in
     (λ i. left (c .place-after .ensures i) (copied .last .1 .0))
-    ∙ next-found (a .message .now) (a .at) (a .out .now) (c .before .before .before .before .before .before .before .before .before .before .before .if1 .left) found (c .before .before .before .before .before .before .to-bytes .result) (copied .last .1 .0) wrote (copied .ensures .1)
+    ∙ next-found (a .message .now) (a .at) (a .«record» .now) (else1 .if1 .left) found (after-to-bytes .to-bytes .result) (copied .last .1 .0) wrote (copied .ensures .1)
 
 pub ssaldorip-message-next-spec : {M : Type 1} → statement M
 ssaldorip-message-next-spec =
     tie.close
     (tie.spec
+    (search needs)
     returns
     (search needs)
     returns-2

@@ -5,10 +5,15 @@ use Rattle.ssaldorip.proofs.messages.ssaldorip_message_write.Statement.
 use Rattle.ssaldorip.proofs.messages.ssaldorip_message_write.Tie as tie
 
 returns : tie.Need-returns
-returns c = rw (← c .before .before .before .before .write .ensures, c .enum-told .given .1)
+returns c =
+    let after-write : tie.After-write = search in
+    rw (← after-write .write .ensures, c .enum-told .given .1)
 
 returns-2 : tie.Need-returns-2
-returns-2 c = rw (c .number .ensures, ← c .before .before .before .before .before .before .write .ensures, c .before .before .written .given .1)
+returns-2 c =
+    let after-written : tie.After-written = search in
+    let after-write : tie.After-write = search in
+    rw (c .number .ensures, ← after-write .write .ensures, after-written .written .given .1)
 
 pub ssaldorip-message-write-spec : {M : Type 1} → statement M
 ssaldorip-message-write-spec =

@@ -11,12 +11,15 @@ returns : tie.Need-returns
 returns c = sym (raise-short _ _ (c .if1 .taken))
 
 returns-2 : tie.Need-returns-2
-returns-2 c = sym (raise-by-short _ _ (c .before .if1 .left) (c .if2 .taken))
+returns-2 c =
+    let else1 : tie.Else1 = search in
+    sym (raise-by-short _ _ (else1 .if1 .left) (c .if2 .taken))
 
 returns-3 : tie.Need-returns-3
 returns-3 c =
-    let a = c .before .before .before .before .before .before .before .before .before .before .before .before .args in
-    let e = raise-done (a .session .now) (a .reply .now) (omega arith) (omega arith) in
+    let at-start : tie.Start = search in
+    let a = at-start .args in
+    let e = raise-done (a .session .now) (a .reply-vector .now) (omega arith) (omega arith) in
     cc
 
 pub ssaldorip-session-raise-spec : {M : Type 1} → statement M

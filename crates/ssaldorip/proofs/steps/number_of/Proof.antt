@@ -24,7 +24,9 @@ returns-4 : tie.Need-returns-4
 returns-4 c = λ v. same _ _ (c .enum-told4 .given .1) v
 
 returns-5 : tie.Need-returns-5
-returns-5 c = λ v. c .number .ensures ∙ same _ _ (c .before .before .a .given .1) v
+returns-5 c =
+    let after-a : tie.After-a = search in
+    λ v. c .number .ensures ∙ same _ _ (after-a .a .given .1) v
 
 pub number-of-spec : {M : Type 1} → statement M
 number-of-spec =

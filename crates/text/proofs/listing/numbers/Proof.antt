@@ -8,11 +8,17 @@ use borrow.Author.Needs.{needs}
 use Rattle.text.proofs.listing.numbers.Statement.{statement}
 use Rattle.text.proofs.listing.numbers.Tie as tie
 
+eight : (s : tie.Start) → length (s .args .r .stamp .counts) ≡ 8
+eight s = search needs
+
 returns : tie.Need-returns
 returns c =
-    let counts = c .before .before .before .before .before .before .before .args .r .stamp .counts in
-    let eight : length counts ≡ 8 = search needs in
-    c .with-stamp .ensures ∙ rw (c .before .before .before .before .before .wide32 .ensures .0, c .before .before .before .before .before .before .number .ensures, take-all 8 counts (omega arith))
+    let wide : tie.After-wide32 = search in
+    let own : tie.After-number = search in
+    let s : tie.Start = search in
+    let few = eight s in
+    c .with-stamp .ensures
+    ∙ rw (wide .wide32 .ensures .0, own .number .ensures, take-all 8 (s .args .r .stamp .counts) (omega arith))
 
 pub numbers-spec : {M : Type 1} → statement M
 numbers-spec =

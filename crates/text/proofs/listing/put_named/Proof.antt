@@ -8,10 +8,16 @@ use Rattle.text.proofs.listing.put_named.Statement.{statement}
 use Rattle.text.proofs.listing.put_named.Tie as tie
 
 put-decimal-requires : tie.Need-put-decimal-requires
-put-decimal-requires c κs = omega (arith, length-decimal (c .before .before .before .before .before .before .before .args .n), same-room (c .before .before .before .put-text .ensures))
+put-decimal-requires c κs =
+    let one : tie.After-put-text = search in
+    let s : tie.Start = search in
+    omega (arith, length-decimal (s .args .n), same-room (one .put-text .ensures))
 
 returns : tie.Need-returns
-returns c = then (c .before .before .before .before .before .before .put-text .ensures) (c .before .before .put-decimal .ensures)
+returns c =
+    let number : tie.After-put-decimal = search in
+    let one : tie.After-put-text = search in
+    then (one .put-text .ensures) (number .put-decimal .ensures)
 
 pub put-named-spec : {M : Type 1} → statement M
 put-named-spec = tie.close (tie.spec (search needs) put-decimal-requires (search needs) returns)

@@ -10,18 +10,25 @@ use borrow.Author.Needs.{needs}
 use Rattle.text.proofs.listing.put_record.Statement.{statement}
 use Rattle.text.proofs.listing.put_record.Tie as tie
 
+fourteen : (c : tie.After-numbers) → length (c .numbers .result) ≡ 14
+fourteen c = search needs
+
 slice-aggregate-put-line : tie.Need-slice-aggregate-put-line
 slice-aggregate-put-line c =
-    let l : length (c .before .before .numbers .result) ≡ 14 = search needs in simp length-take (omega arith)
+    let all = fourteen (search) in
+    simp length-take (omega arith)
 
 put-line-requires : tie.Need-put-line-requires
 put-line-requires c κs =
-    let l : length (c .before .before .numbers .result) ≡ 14 = search needs in (simp length-take (omega arith), simp length-take (omega arith))
+    let all = fourteen (search) in
+    (simp length-take (omega arith), simp length-take (omega arith))
 
 returns : tie.Need-returns
 returns c =
-    let a = c .before .before .before .before .before .before .before .args in
-    same-text (rw (c .before .before .before .before .before .numbers .ensures) (ap line (numbers-taken (a .n) (a .r) (c .before .before .before .before .before .before .before .pre .0)))) (c .before .before .put-line .ensures)
+    let line-put : tie.After-put-line = search in
+    let made : tie.After-numbers = search in
+    let s : tie.Start = search in
+    same-text (rw (made .numbers .ensures) (ap line (numbers-taken (s .args .n) (s .args .r) (search needs)))) (line-put .put-line .ensures)
 
 pub put-record-spec : {M : Type 1} → statement M
 put-record-spec =

@@ -5,7 +5,8 @@ use Prim.Native.Nat.{_≤_, _<_, _-_, _+_, _*_}
 use mathlib.Core.Path.{_≡_, ap, refl, _∙_}
 use mathlib.Core.List.{[], flatMap}
 use native.Mathlib.Omega.{arith}
-use lib.ListN.{length, take}
+use lib.ListN.{length, getD, take}
+use Rattle.notes.specs.Index.{servers}
 use Rattle.notes.specs.Record.{decode, recordSize}
 use Rattle.notes.specs.Message.{headerSize, brought, readAt, placeAfter}
 use Rattle.notes.proofs.Reading.{read-record, place-record}
@@ -26,37 +27,67 @@ Inv-loop m out₀ at n count end₀ place₀ k₀ out end place k =
 abbrev μ-loop : tie.MeasureT-loop
 μ-loop m out₀ at n count end₀ place₀ k₀ out end place k = count - k
 
+few : (s : tie.Start Inv-loop μ-loop) → s .args .n ≤ servers
+few s = search needs
+
+all : (s : tie.Start Inv-loop μ-loop) → s .args .count ≡ length (brought (s .args .m .now))
+all s = search needs
+
+-- a record is left
+left :
+    (c : tie.In-loop Inv-loop μ-loop)
+    → let s : tie.Start Inv-loop μ-loop = search in let l : tie.At-loop Inv-loop μ-loop = search in
+    l .loop .k < length (brought (s .args .m .now))
+left c = omega (arith, all (search), c .loop-test .taken)
+
+-- what is read is the message's next record
+this :
+    (c : tie.After-record-from Inv-loop μ-loop)
+    → let s : tie.Start Inv-loop μ-loop = search in let l : tie.At-loop Inv-loop μ-loop = search in
+    c .record-from .result .write ≡ getD (brought (s .args .m .now)) (l .loop .k) (decode [])
+this c =
+    let l : tie.At-loop Inv-loop μ-loop = search in
+    let s : tie.Start Inv-loop μ-loop = search in
+    let m = s .args .m .now in
+    ap (λ x. x .write) (c .record-from .ensures ∙ ap (readAt m) (l .loop .inv .3) ∙ read-record m (l .loop .k) (left (search)))
+
 loop-holds : tie.Need-loop-holds Inv-loop μ-loop
 unfolding flatMap
-loop-holds c = (search needs, no-text (c .before .before .args .out .now) (c .before .before .args .at), search needs, refl)
+loop-holds c =
+    let s : tie.Start Inv-loop μ-loop = search in
+    (search needs, no-text (s .args .out .now) (s .args .at), search needs, refl)
 
 put-record-requires : tie.Need-put-record-requires Inv-loop μ-loop
 put-record-requires c κs =
-    let l = c .before .before .before .before .loop .inv in
-    (search needs, omega (arith, same-room (l .1), l .2, c .before .before .before .before .before .before .before .pre .2, c .before .before .before .loop-test .taken))
+    let l : tie.At-loop Inv-loop μ-loop = search in
+    (search needs, omega (arith, same-room (l .loop .inv .1)))
 
 loop-again : tie.Need-loop-again Inv-loop μ-loop
 loop-again c =
-    let start = c .before .before .before .before .before .before .before .before .before .before .before in
-    let a = start .args in
-    let l = c .before .before .before .before .before .before .before .before .loop in
-    let rs = brought (a .m .now) in
-    let here : l .k < length rs = omega (arith, start .pre .1, c .before .before .before .before .before .before .before .loop-test .taken) in
-    let found = c .before .before .before .before .before .before .record-from in
-    let read = ap (λ x. x .write) (found .ensures ∙ ap (readAt (a .m .now)) (l .inv .3) ∙ read-record (a .m .now) (l .k) here) in (
+    let put : tie.After-put-record Inv-loop μ-loop = search in
+    let found : tie.After-record-from Inv-loop μ-loop = search in
+    let at : tie.At-loop Inv-loop μ-loop = search in
+    let s : tie.Start Inv-loop μ-loop = search in
+    let a = s .args in
+    let l = at .loop in
+    let m = a .m .now in
+    let here = left (search) in (
       search needs,
-      same-text (rw read (each-more (recordLine (a .n)) rs (l .k) (decode []) here)) (then (l .inv .1) (c .before .before .before .put-record .ensures)),
-      omega (arith, l .inv .2, record-room (a .n) (start .pre .0) (found .result .write), c .before .before .before .put-record .ensures .ends),
-      c .place-after .ensures ∙ ap (placeAfter (a .m .now)) (l .inv .3) ∙ place-record (a .m .now) (l .k) here,
+      same-text (rw (this found) (each-more (recordLine (a .n)) (brought m) (l .k) (decode []) here)) (then (l .inv .1) (put .put-record .ensures)),
+      omega (arith, l .inv .2, record-room (a .n) (few s) (found .record-from .result .write), put .put-record .ensures .ends),
+      c .place-after .ensures ∙ ap (placeAfter m) (l .inv .3) ∙ place-record m (l .k) here,
     )
 
 same-length : tie.Need-same-length Inv-loop μ-loop
-same-length c = same-room (c .before .loop .inv .1)
+same-length c =
+    let l : tie.At-loop Inv-loop μ-loop = search in
+    same-room (l .loop .inv .1)
 
 returns : tie.Need-returns Inv-loop μ-loop
 returns c =
-    let a = c .before .before .before .before .args in
-    same-text (each-all (recordLine (a .n)) (brought (a .m .now)) (c .before .loop .k) (omega (arith, c .before .before .before .before .pre .1, c .loop-test .left))) (c .before .loop .inv .1)
+    let l : tie.At-loop Inv-loop μ-loop = search in
+    let s : tie.Start Inv-loop μ-loop = search in
+    same-text (each-all (recordLine (s .args .n)) (brought (s .args .m .now)) (l .loop .k) (omega (arith, all s, c .loop-test .left))) (l .loop .inv .1)
 
 pub put-records-spec : {M : Type 1} → statement M
 put-records-spec =

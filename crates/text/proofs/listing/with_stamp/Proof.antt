@@ -20,24 +20,31 @@ abbrev μ-loop : tie.MeasureT-loop
 loop-holds : tie.Need-loop-holds Inv-loop μ-loop
 loop-holds c = (search needs, sym (front-none (c .args .front) (c .args .t2 .counts) (search needs)), search needs)
 
+fourteen : (s : tie.Start Inv-loop μ-loop) → length (s .args .front) ≡ 14
+fourteen s = search needs
+
+eight : (s : tie.Start Inv-loop μ-loop) → length (s .args .t2 .counts) ≡ 8
+eight s = search needs
+
 loop-again : tie.Need-loop-again Inv-loop μ-loop
 loop-again c =
-    let o = c .before .before .before .before .args .front in
-    let t = c .before .before .before .before .args .t2 in
-    let lo : length o ≡ 14 = search needs in
-    let lt : length (t .counts) ≡ 8 = search needs in (
+    let l : tie.At-loop Inv-loop μ-loop = search in
+    let s : tie.Start Inv-loop μ-loop = search in
+    let all = fourteen s in
+    let t = eight s in (
       search needs,
-      rw (c .before .before .before .loop .inv .1, c .wide32 .ensures .0) (front-more o (t .counts) (omega arith) (c .before .before .before .loop .i) (omega arith) (omega arith)),
+      rw (l .loop .inv .1, c .wide32 .ensures .0)
+          (front-more (s .args .front) (s .args .t2 .counts) (omega arith) (l .loop .i) (omega arith) (omega arith)),
       search needs,
     )
 
 returns : tie.Need-returns Inv-loop μ-loop
 returns c =
-    let o = c .before .before .args .front in
-    let t = c .before .before .args .t2 in
-    let lo : length o ≡ 14 = search needs in
-    let lt : length (t .counts) ≡ 8 = search needs in
-    c .before .loop .inv .1 ∙ front-all o (t .counts) (omega arith) (c .before .loop .i) (omega arith) (omega arith)
+    let l : tie.At-loop Inv-loop μ-loop = search in
+    let s : tie.Start Inv-loop μ-loop = search in
+    let all = fourteen s in
+    let t = eight s in
+    l .loop .inv .1 ∙ front-all (s .args .front) (s .args .t2 .counts) (omega arith) (l .loop .i) (omega arith) (omega arith)
 
 pub with-stamp-spec : {M : Type 1} → statement M
 with-stamp-spec =

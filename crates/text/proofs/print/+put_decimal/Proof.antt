@@ -1,141 +1,89 @@
 -- `print::put_decimal` meets its contract: the last digit stands behind the others, which a call on a tenth of the number stores.
 -- Assumes nothing.
-use Prim.Native.Nat.{ℕ, _<_}
-use mathlib.Core.Path.{sym}
+use Prim.Native.Nat.{ℕ, _+_, _/_, _<_}
+use mathlib.Core.Path.{_≡_, sym}
 use native.Mathlib.Omega.{arith}
-use lib.ListN.{length-set}
+use lib.ListN.{length, length-set}
 use borrow.Author.Needs.{needs}
+use Rattle.text.specs.Text.{decimal}
 use Rattle.text.proofs.Texts.{then, same-text, one-byte}
 use Rattle.text.proofs.Decimals.{decimal-one, decimal-more, length-one, length-more}
 use borrow.Fn.Kinds.{In}
 use borrow.Fn.PlainCycle.{Measures, is, falls, and}
-use Rattle.text.proofs.print.put_decimal.Reads as put-decimal
-use Rattle.text.proofs.print.put_decimal.Kinds as put-decimal-kinds
-use Rattle.text.proofs.print.+put_decimal.Lts-put_decimal as put-decimal-lts
+use Rattle.text.proofs.print.put_decimal.Reads.{Pre, Post}
+use Rattle.text.proofs.print.put_decimal.Kinds.{ps}
+use Rattle.text.proofs.print.+put_decimal.Lts-put_decimal as lts
 use Rattle.text.proofs.print.+put_decimal.{statement}
 use Rattle.text.proofs.print.+put_decimal.Tie.{close}
 
-abbrev μ-put-decimal : Measures 1 put-decimal-kinds.ps ℕ
-μ-put-decimal κs a = a .1 .1 .0
+-- the number falls with each call
+abbrev μ : Measures 1 ps ℕ
+μ κs a = a .1 .1 .0
 
-abbrev put-decimal-at : ℕ → In 1 put-decimal-kinds.ps
-put-decimal-at t =
-    and 1 put-decimal-kinds.ps (is 1 put-decimal-kinds.ps μ-put-decimal t) put-decimal.Pre
+module _ (t : ℕ) where
+  -- what is known of this call, of measure t, and what is asked for the next
+  abbrev called : In 1 ps
+  called = and 1 ps (is 1 ps μ t) Pre
 
-abbrev put-decimal-below : ℕ → In 1 put-decimal-kinds.ps
-put-decimal-below t =
-    and 1 put-decimal-kinds.ps (falls 1 put-decimal-kinds.ps _<_ μ-put-decimal t) put-decimal.Pre
+  abbrev calls : In 1 ps
+  calls = and 1 ps (falls 1 ps _<_ μ t) Pre
 
-put-decimal-cast-out : (t : ℕ) → put-decimal-lts.Need-cast-out (
-  put-decimal-below t,
-  put-decimal.Post,
-) (put-decimal-at t) put-decimal.Post
-put-decimal-cast-out t c = search needs
+  -- the places
+  abbrev Start : Type 0
+  Start = lts.Start (calls, Post) called Post
 
-put-decimal-add-out : (t : ℕ) → put-decimal-lts.Need-add-out (
-  put-decimal-below t,
-  put-decimal.Post,
-) (put-decimal-at t) put-decimal.Post
-put-decimal-add-out t c = search needs
+  abbrev Then1 : Type 0
+  Then1 = lts.Then1 (calls, Post) called Post
 
-put-decimal-slice-write-out : (t : ℕ) → put-decimal-lts.Need-slice-write-out (
-  put-decimal-below t,
-  put-decimal.Post,
-) (put-decimal-at t) put-decimal.Post
-put-decimal-slice-write-out t c = omega (arith, length-one (c .before .before .args .n) (c .if1 .taken))
+  abbrev Else1 : Type 0
+  Else1 = lts.Else1 (calls, Post) called Post
 
-put-decimal-add-result : (t : ℕ) → put-decimal-lts.Need-add-result (
-  put-decimal-below t,
-  put-decimal.Post,
-) (put-decimal-at t) put-decimal.Post
-put-decimal-add-result t c = omega (arith, length-one (c .before .before .args .n) (c .if1 .taken))
+  abbrev After-put-decimal : Type 0
+  After-put-decimal = lts.After-put-decimal (calls, Post) called Post
 
-put-decimal-same-length : (t : ℕ) → put-decimal-lts.Need-same-length (
-  put-decimal-below t,
-  put-decimal.Post,
-) (put-decimal-at t) put-decimal.Post
-put-decimal-same-length t c = search needs
+  -- one digit, or one more than a tenth has
+  one : (c : Then1) → let s : Start = search in length (decimal (s .args .n)) ≡ 1
+  one c =
+      let s : Start = search in
+      length-one (s .args .n) (c .if1 .taken)
 
-put-decimal-returns : (t : ℕ) → put-decimal-lts.Need-returns (
-  put-decimal-below t,
-  put-decimal.Post,
-) (put-decimal-at t) put-decimal.Post
-put-decimal-returns t c =
-    let s = c .before .before in
-    same-text (sym (decimal-one (s .args .n) (c .if1 .taken))) (one-byte (s .args .out .now) (s .args .at) _)
+  more : (c : Else1) → let s : Start = search in length (decimal (s .args .n)) ≡ length (decimal (s .args .n / 10)) + 1
+  more c =
+      let s : Start = search in
+      length-more (s .args .n) (c .if1 .left) (search needs)
 
-put-decimal-put-decimal-requires : (t : ℕ) → put-decimal-lts.Need-put-decimal-requires (
-  put-decimal-below t,
-  put-decimal.Post,
-) (put-decimal-at t) put-decimal.Post
-put-decimal-put-decimal-requires t c κs =
-    let n = c .before .before .before .args .n in
-    let l = length-more n (c .before .if1 .left) (search needs) in
-    (omega arith, omega arith)
+  returns : lts.Need-returns (calls, Post) called Post
+  returns c =
+      let s : Start = search in
+      same-text (sym (decimal-one (s .args .n) (c .if1 .taken))) (one-byte (s .args .out .now) (s .args .at) _)
 
-put-decimal-cast-out-2 : (t : ℕ) → put-decimal-lts.Need-cast-out-2 (
-  put-decimal-below t,
-  put-decimal.Post,
-) (put-decimal-at t) put-decimal.Post
-put-decimal-cast-out-2 t c = search needs
+  same-length-2 : lts.Need-same-length-2 (calls, Post) called Post
+  same-length-2 c =
+      let told : After-put-decimal = search in
+      simp length-set (told .put-decimal .kept .0)
 
-put-decimal-add-out-2 : (t : ℕ) → put-decimal-lts.Need-add-out-2 (
-  put-decimal-below t,
-  put-decimal.Post,
-) (put-decimal-at t) put-decimal.Post
-put-decimal-add-out-2 t c = search needs
-
-put-decimal-slice-write-out-2 : (t : ℕ) → put-decimal-lts.Need-slice-write-out-2 (
-  put-decimal-below t,
-  put-decimal.Post,
-) (put-decimal-at t) put-decimal.Post
-put-decimal-slice-write-out-2 t c =
-    let s = c .before .before .before .before .before .before in
-    let l = length-more (s .args .n) (c .before .before .before .before .if1 .left) (search needs) in
-    omega arith
-
-put-decimal-add-result-2 : (t : ℕ) → put-decimal-lts.Need-add-result-2 (
-  put-decimal-below t,
-  put-decimal.Post,
-) (put-decimal-at t) put-decimal.Post
-put-decimal-add-result-2 t c =
-    let s = c .before .before .before .before .before .before in
-    let l = length-more (s .args .n) (c .before .before .before .before .if1 .left) (search needs) in
-    omega arith
-
-put-decimal-same-length-2 : (t : ℕ) → put-decimal-lts.Need-same-length-2 (
-  put-decimal-below t,
-  put-decimal.Post,
-) (put-decimal-at t) put-decimal.Post
-put-decimal-same-length-2 t c = simp length-set (c .before .before .put-decimal .kept .0)
-
-put-decimal-returns-2 : (t : ℕ) → put-decimal-lts.Need-returns-2 (
-  put-decimal-below t,
-  put-decimal.Post,
-) (put-decimal-at t) put-decimal.Post
-put-decimal-returns-2 t c =
-    let n = c .before .before .before .before .before .before .args .n in
-    let call = c .before .before .put-decimal in
-    same-text (sym (decimal-more n (c .before .before .before .before .if1 .left) (search needs)))
-    (then (call .ensures) (one-byte (call .last .0) (call .result) _))
+  returns-2 : lts.Need-returns-2 (calls, Post) called Post
+  returns-2 c =
+      let told : After-put-decimal = search in
+      let long : Else1 = search in
+      let s : Start = search in
+      same-text (sym (decimal-more (s .args .n) (long .if1 .left) (search needs)))
+      (then (told .put-decimal .ensures) (one-byte (told .put-decimal .last .0) (told .put-decimal .result) _))
 
 pub +put-decimal-spec : {M : Type 1} → statement M
-+put-decimal-spec = close μ-put-decimal λ t. put-decimal-lts.spec (
-  put-decimal-below t,
-  put-decimal.Post,
-)
-    (put-decimal-at t)
-    put-decimal.Post
-    (put-decimal-cast-out t)
-    (put-decimal-add-out t)
-    (put-decimal-slice-write-out t)
-    (put-decimal-add-result t)
-    (put-decimal-same-length t)
-    (put-decimal-returns t)
-    (put-decimal-put-decimal-requires t)
-    (put-decimal-cast-out-2 t)
-    (put-decimal-add-out-2 t)
-    (put-decimal-slice-write-out-2 t)
-    (put-decimal-add-result-2 t)
-    (put-decimal-same-length-2 t)
-    (put-decimal-returns-2 t)
++put-decimal-spec = close μ λ t. lts.spec (calls t, Post)
+    (called t)
+    Post
+    (search needs)
+    (search needs)
+    (λ c. omega (arith, one t (search)))
+    (λ c. omega (arith, one t (search)))
+    (search needs)
+    (returns t)
+    (λ c κs. (omega arith, omega (arith, more t (search))))
+    (search needs)
+    (search needs)
+    (λ c. omega (arith, more t (search)))
+    (λ c. omega (arith, more t (search)))
+    (same-length-2 t)
+    (returns-2 t)

@@ -20,26 +20,38 @@ abbrev μ-loop : tie.MeasureT-loop
 
 loop-holds : tie.Need-loop-holds Inv-loop μ-loop
 unfolding flatMap
-loop-holds c = (search needs, no-text (c .before .before .args .out .now) (c .before .before .args .at), search needs)
+loop-holds c =
+    let s : tie.Start Inv-loop μ-loop = search in
+    (search needs, no-text (s .args .out .now) (s .args .at), search needs)
 
 put-spaced-requires : tie.Need-put-spaced-requires Inv-loop μ-loop
 put-spaced-requires c κs =
-    omega (arith, length-spaced (getD (c .before .before .before .before .before .before .args .xs .now) (c .before .before .before .loop .i) 0), same-room (c .before .before .before .loop .inv .1))
+    let l : tie.At-loop Inv-loop μ-loop = search in
+    let s : tie.Start Inv-loop μ-loop = search in
+    omega (arith, length-spaced (getD (s .args .xs .now) (l .loop .i) 0), same-room (l .loop .inv .1))
 
 loop-again : tie.Need-loop-again Inv-loop μ-loop
 loop-again c =
-    let xs = c .before .before .before .before .before .before .before .before .before .args .xs .now in
-    let l = c .before .before .before .before .before .before .loop in (
+    let put : tie.After-put-spaced Inv-loop μ-loop = search in
+    let turn : tie.In-loop Inv-loop μ-loop = search in
+    let l : tie.At-loop Inv-loop μ-loop = search in
+    let s : tie.Start Inv-loop μ-loop = search in
+    let xs = s .args .xs .now in (
       search needs,
-      same-text (each-more spaced xs (l .i) 0 (c .before .before .before .before .before .loop-test .taken)) (then (l .inv .1) (c .before .before .put-spaced .ensures)),
-      omega (arith, length-spaced (getD xs (l .i) 0), c .before .before .put-spaced .ensures .ends),
+      same-text (each-more spaced xs (l .loop .i) 0 (turn .loop-test .taken)) (then (l .loop .inv .1) (put .put-spaced .ensures)),
+      omega (arith, length-spaced (getD xs (l .loop .i) 0), put .put-spaced .ensures .ends),
     )
 
 same-length : tie.Need-same-length Inv-loop μ-loop
-same-length c = same-room (c .before .loop .inv .1)
+same-length c =
+    let l : tie.At-loop Inv-loop μ-loop = search in
+    same-room (l .loop .inv .1)
 
 returns : tie.Need-returns Inv-loop μ-loop
-returns c = same-text (each-all spaced (c .before .before .before .before .args .xs .now) (c .before .loop .i) (c .loop-test .left)) (c .before .loop .inv .1)
+returns c =
+    let l : tie.At-loop Inv-loop μ-loop = search in
+    let s : tie.Start Inv-loop μ-loop = search in
+    same-text (each-all spaced (s .args .xs .now) (l .loop .i) (c .loop-test .left)) (l .loop .inv .1)
 
 pub put-all-spaced-spec : {M : Type 1} → statement M
 put-all-spaced-spec =

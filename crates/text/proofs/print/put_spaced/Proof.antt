@@ -11,10 +11,15 @@ put-decimal-requires : tie.Need-put-decimal-requires
 put-decimal-requires c κs = simp length-set (omega arith)
 
 same-length : tie.Need-same-length
-same-length c = simp length-set at (c .before .before .put-decimal .kept .0)
+same-length c =
+    let number : tie.After-put-decimal = search in
+    simp length-set at (number .put-decimal .kept .0)
 
 returns : tie.Need-returns
-returns c = then (one-byte (c .before .before .before .before .before .args .out .now) (c .before .before .before .before .before .args .at) 32) (c .before .before .put-decimal .ensures)
+returns c =
+    let number : tie.After-put-decimal = search in
+    let s : tie.Start = search in
+    then (one-byte (s .args .out .now) (s .args .at) 32) (number .put-decimal .ensures)
 
 pub put-spaced-spec : {M : Type 1} → statement M
 put-spaced-spec =

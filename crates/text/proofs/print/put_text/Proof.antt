@@ -8,9 +8,12 @@ use Rattle.text.proofs.print.put_text.Tie as tie
 
 returns : tie.Need-returns
 returns c =
+    let copied : tie.After-copy = search in
+    let s : tie.Start = search in
+    let a = s .args in
     record {
       ends = refl;
-      bytes = put-rest (c .before .before .before .before .before .before .args .at) (c .before .before .before .before .before .before .args .out .now) (c .before .before .before .before .before .before .args .t .now) (c .before .before .copy .last .1 .0) (c .before .before .before .before .before .before .pre) (c .before .before .copy .ensures .1);
+      bytes = put-rest (a .at) (a .out .now) (a .t .now) (copied .copy .last .1 .0) (s .pre) (copied .copy .ensures .1);
     }
 
 pub put-text-spec : {M : Type 1} → statement M

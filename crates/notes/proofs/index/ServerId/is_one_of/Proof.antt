@@ -16,7 +16,10 @@ returns-2 c = rw (lt-leb _ _ (c .if2 .taken), and-false)
 
 returns-3 : tie.Need-returns-3
 unfolding serverOk
-returns-3 c = rw (le-leb _ _ (c .before .before .if1 .left), le-leb _ _ (c .before .if2 .left))
+returns-3 c =
+    let else2 : tie.Else2 = search in
+    let else1 : tie.Else1 = search in
+    rw (le-leb _ _ (else1 .if1 .left), le-leb _ _ (else2 .if2 .left))
 
 pub is-one-of-spec : {M : Type 1} → statement M
 is-one-of-spec = tie.close (tie.spec returns returns-2 returns-3)

@@ -10,7 +10,10 @@ returns : tie.Need-returns
 returns c = c .decoded .ensures
 
 returns-2 : tie.Need-returns-2
-returns-2 c = c .decoded2 .ensures ∙ rw (c .before .before .before .copy .ensures .1) (decode-padded (c .before .before .before .before .before .before .before .args .b .now) 28)
+returns-2 c =
+    let after-copy : tie.After-copy = search in
+    let at-start : tie.Start = search in
+    c .decoded2 .ensures ∙ rw (after-copy .copy .ensures .1) (decode-padded (at-start .args .b .now) 28)
 
 pub from-bytes-spec : {M : Type 1} → statement M
 from-bytes-spec =

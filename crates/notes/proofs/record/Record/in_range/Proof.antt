@@ -16,7 +16,10 @@ returns-2 c = rw (le-ltb _ _ (c .if2 .taken), and-false)
 
 returns-3 : tie.Need-returns-3
 unfolding inRange
-returns-3 c = rw (lt-ltb _ _ (c .before .before .before .if1 .left), lt-ltb _ _ (c .before .if2 .left))
+returns-3 c =
+    let else2 : tie.Else2 = search in
+    let else1 : tie.Else1 = search in
+    rw (lt-ltb _ _ (else1 .if1 .left), lt-ltb _ _ (else2 .if2 .left))
 
 pub in-range-spec : {M : Type 1} → statement M
 in-range-spec = tie.close (tie.spec returns returns-2 returns-3)

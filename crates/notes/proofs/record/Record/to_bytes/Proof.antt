@@ -13,10 +13,17 @@ eight c = search needs
 
 returns : tie.Need-returns
 returns c =
-    let self = c .before .before .before .before .before .before .before .before .before .before .before .before .before .before .before .before .before .before .before .args .self in
-    c .before .put-vector .ensures
-    ∙ rw (c .before .before .before .before .put-u322 .ensures, c .before .before .before .before .before .before .before .put-u32 .ensures, c .before .before .before .before .before .before .before .before .before .before .put-u16 .ensures, c .before .before .before .before .before .before .before .before .before .before .before .before .before .put-u82 .ensures, c .before .before .before .before .before .before .before .before .before .before .before .before .before .before .before .before .put-u8 .ensures)
-    (encode-stored self (replicate 28 0) ∙ encode-filled self (eight (c .before .before .before .before .before .before .before .before .before .before .before .before .before .before .before .before .before .before .before)))
+    let after-put-vector : tie.After-put-vector = search in
+    let after-put-u322 : tie.After-put-u322 = search in
+    let after-put-u32 : tie.After-put-u32 = search in
+    let after-put-u16 : tie.After-put-u16 = search in
+    let after-put-u82 : tie.After-put-u82 = search in
+    let after-put-u8 : tie.After-put-u8 = search in
+    let at-start : tie.Start = search in
+    let self = at-start .args .self in
+    after-put-vector .put-vector .ensures
+    ∙ rw (after-put-u322 .put-u322 .ensures, after-put-u32 .put-u32 .ensures, after-put-u16 .put-u16 .ensures, after-put-u82 .put-u82 .ensures, after-put-u8 .put-u8 .ensures)
+    (encode-stored self (replicate 28 0) ∙ encode-filled self (eight at-start))
 
 pub to-bytes-spec : {M : Type 1} → statement M
 to-bytes-spec =

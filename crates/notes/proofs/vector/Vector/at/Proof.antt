@@ -9,7 +9,8 @@ use Rattle.notes.proofs.vector.Vector.at.Tie as tie
 
 returns-2 : tie.Need-returns-2
 returns-2 c =
-    let a = c .before .before .args in
+    let at-start : tie.Start = search in
+    let a = at-start .args in
     let l : length (a .t1 .counts) ≡ 8 = search needs in
     sym (List·getD-eq-default (a .t1 .counts) 0 {n = a .s .0} (omega arith))
 

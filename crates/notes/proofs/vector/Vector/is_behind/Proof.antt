@@ -24,14 +24,18 @@ loop-holds c = search needs
 
 loop-again : tie.Need-loop-again Inv-loop μ-loop
 loop-again c =
-    let l = c .before .before .before .loop in
-    let a = c .before .before .before .before .args in
+    let at-loop : tie.At-loop Inv-loop μ-loop = search in
+    let at-start : tie.Start Inv-loop μ-loop = search in
+    let l = at-loop .loop in
+    let a = at-start .args in
     (search needs, rw (l .inv .1) (sym (behind-more (a .t1) (a .t2) (search needs) (search needs) (l .i) (search needs))))
 
 returns : tie.Need-returns Inv-loop μ-loop
 returns c =
-    let l = c .before .loop in
-    let a = c .before .before .args in
+    let at-loop : tie.At-loop Inv-loop μ-loop = search in
+    let at-start : tie.Start Inv-loop μ-loop = search in
+    let l = at-loop .loop in
+    let a = at-start .args in
     rw (l .inv .1) (behind-all (a .t1) (a .t2) (search needs) (search needs) (l .i) (c .loop-test .left))
 
 pub is-behind-spec : {M : Type 1} → statement M

@@ -3,9 +3,11 @@
 use Prim.Native.Nat.{_≤_, _-_}
 use mathlib.Core.Path.{_≡_, refl, ap, _∙_}
 use mathlib.Core.List.{_++_}
+use native.Mathlib.Omega.{arith}
 use lib.ListN.{length, take, drop}
 use Rattle.notes.specs.Vector.{vector, maximum as maximumOf}
-use Rattle.notes.proofs.Vectors.{maximum-more, length-maximum, copied-all}
+use Rattle.notes.proofs.Vectors.{maximum-more, length-maximum}
+use Rattle.notes.proofs.Lists.{copied-all}
 use borrow.Author.Needs.{needs}
 use Rattle.notes.proofs.vector.Vector.maximum.Statement.{statement}
 use Rattle.notes.proofs.vector.Vector.maximum.Tie as tie
@@ -22,8 +24,10 @@ loop-holds c = (search needs, refl, search needs)
 
 loop-again : tie.Need-loop-again Inv-loop μ-loop
 loop-again c =
-    let l = c .before .before .before .before .loop in
-    let a = c .before .before .before .before .before .args in (
+    let at-loop : tie.At-loop Inv-loop μ-loop = search in
+    let at-start : tie.Start Inv-loop μ-loop = search in
+    let l = at-loop .loop in
+    let a = at-start .args in (
       search needs,
       rw (l .inv .1, c .greater .ensures) (maximum-more (a .t1) (a .t2) (search needs) (search needs) (l .i) (search needs)),
       search needs,
@@ -31,11 +35,13 @@ loop-again c =
 
 returns : tie.Need-returns Inv-loop μ-loop
 returns c =
-    let l = c .before .loop in
-    let a = c .before .before .args in
-    ap vector
-    (l .inv .1
-    ∙ copied-all (maximumOf (a .t1) (a .t2) .counts) (a .t1 .counts) (l .i) (length-maximum (a .t1) (a .t2) (search needs) (search needs)) (search needs) (c .loop-test .left))
+    let at-loop : tie.At-loop Inv-loop μ-loop = search in
+    let at-start : tie.Start Inv-loop μ-loop = search in
+    let l = at-loop .loop in
+    let a = at-start .args in
+    let eight = length-maximum (a .t1) (a .t2) (search needs) (search needs) in
+    let own : length (a .t1 .counts) ≡ 8 = search needs in
+    ap vector (l .inv .1 ∙ copied-all (maximumOf (a .t1) (a .t2) .counts) (a .t1 .counts) (l .i) (omega arith) (omega arith))
 
 pub maximum-spec : {M : Type 1} → statement M
 maximum-spec =

@@ -16,7 +16,8 @@ returns c = rw (c .greater .ensures)
 returns-2 : tie.Need-returns-2
 unfolding raised
 returns-2 c =
-    let a = c .before .before .args in
+    let at-start : tie.Start = search in
+    let a = at-start .args in
     let l : length (a .t1 .counts) ≡ 8 = search needs in
     ap vector (sym (set-out (a .t1 .counts) (a .s .0) _ (omega arith)))
 

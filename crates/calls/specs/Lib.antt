@@ -1,0 +1,3 @@
+-- The files of definitions.
+pub mod Place
+pub mod Forms

@@ -1,5 +1,0 @@
--- The files of laws and theorems, beside the proofs of functions.
-pub mod LookUp
-pub mod OwnMessage
-pub mod Starting
-pub mod Unique
