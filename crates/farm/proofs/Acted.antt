@@ -1,39 +1,64 @@
--- Worked runs, by computation: reads are served and refused, and cuts fall amid the stores.
+-- Worked runs, by computation: reads are served and refused, cuts fall amid the stores, and a server forgets what it has shown.
 -- Assumes nothing.
 use Prim.Native.Nat.{ℕ}
 use mathlib.Core.Bool.{_&&_}
-use mathlib.Core.List.{List, [], _∷_, _++_}
+use mathlib.Core.List.{List, [], _∷_, _++_, flatMap}
 use lib.Dec.{T, eqb}
-use lib.ListN.{replicate}
-use Rattle.notes.specs.Index.{servers}
+use lib.ListN.{length, replicate}
 use Rattle.notes.specs.Message.{historyMost, messageSize}
 use Rattle.notes.specs.Lists.{same}
 use Rattle.notes.specs.Session.{afterRead, afterWrite}
 use Rattle.notes.specs.Vector.{maximum}
-use Rattle.notes.specs.declared.record.Record.{Record}
 use Rattle.rules.specs.declared.event.Request.the-variants.{Read, Write}
-use Rattle.rules.specs.declared.event.What.the-variants as what
 use Rattle.rules.specs.Writes.{server, sameRecords}
-use Rattle.rules.specs.Memory.{phone, writes}
+use Rattle.rules.specs.Memory.{phone}
 use Rattle.rules.specs.Image.{historySize, imageSize, checkpointCount, logCount}
 use Rattle.rules.specs.Calls.{start, message}
+use Rattle.rules.specs.Step.{step}
 use Rattle.rules.proofs.Computed.{computed}
 use Rattle.rules.proofs.Script.{note}
-use Rattle.farm.specs.Farm.{Asked, Farm, newFarm, Act, asks, serves, cutServing, cuts, recovers, tells, takes, hears, asking, hearing, recordOf, stepAt, serving, servingCut, telling, act, run}
+use Rattle.farm.specs.Farm.{Record, Rule, Asked, Farm, newFarm, performedBy, Act, asks, serves, cutServing, cuts, recovers, tells, takes, hears, asking, hearing, recordOf, attempted, areBytes, stepAt, serve, serving, servingCut, recover, recovering, telling, act, run}
+
+-- the definitions opened all at once: where this is unfolded, a run is computed
+unfoldable pub acted : Rule → Farm → List Act → Farm
+unfolding computed newFarm start asking hearing recordOf stepAt serving servingCut recover recovering areBytes telling act run afterRead afterWrite maximum message flatMap
+acted rule f acts = run rule f acts
 
 -- N servers in zeroed buffers
 abbrev pub new : ℕ → Farm
 new n = newFarm n (λ j. replicate historySize 0) (λ j. replicate imageSize 0)
 
+-- a recovery is lent a history of other bytes: nothing in memory survives a cut
+abbrev pub other : List ℕ
+other = replicate historySize 255
+
+abbrev pub comesBack : ℕ → Act
+comesBack j = recovers (server j) other
+
 -- phone 5 asks; the request, reply or update that was sent last has place 0
-abbrev writes5 : ℕ → Act
+abbrev pub writes5 : ℕ → Act
 writes5 value = asks (phone 5) (Write 300 value 900)
 
 abbrev pub reads5 : Act
 reads5 = asks (phone 5) (Read 300)
 
-abbrev tell : ℕ → Act
+abbrev pub tell : ℕ → Act
 tell j = tells (server j) (replicate (messageSize historyMost) 0)
+
+-- what phone 5 would ask now
+abbrev pub asked5 : Farm → Asked
+asked5 f = asking f (phone 5) (Read 300)
+
+-- the number that it would be answered at a server
+abbrev answer : Farm → ℕ → ℕ
+answer f j = serve step f (server j) (asked5 f) .reply .number
+
+-- the records of what a server has performed, and of what it began
+abbrev did : Farm → ℕ → List Record
+did f j = flatMap attempted (f .ledger .performed j)
+
+abbrev began : Farm → ℕ → List Record
+began f j = flatMap attempted (f .ledger .begun j)
 
 -- ---- example 2, with phone 5 reading at server 1 and later at server 2
 
@@ -50,52 +75,98 @@ acts2 =
     ∷ writes5 8
     ∷ serves 0 (server 0)
     ∷ cuts (server 0)
-    ∷ recovers (server 0)
+    ∷ comesBack 0
     ∷ tell 0
     ∷ takes 0 (server 2)
     ∷ []
 
-abbrev early2 : Farm
-early2 = run (new 3) acts2
-
-abbrev pub late2 : Farm
-late2 = run (new 3) (acts2 ++ takes 1 (server 2) ∷ [])
+abbrev pub late2 : List Act
+late2 = acts2 ++ takes 1 (server 2) ∷ []
 
 abbrev pub first2 : Record
 first2 = note 1 7 (0 ∷ 1 ∷ 0 ∷ [])
 
--- what phone 5 asks at server 2, and the number that it is answered
-abbrev pub asked2 : Farm → Asked
-asked2 f = asking f (phone 5) (Read 300)
-
-abbrev pub answer2 : Farm → ℕ
-answer2 f = stepAt (act f reads5) (server 2) (what.Request (phone 5) (Read 300)) (asked2 f .vector) [] .reply .number
+abbrev second2 : Record
+second2 = note 0 8 (1 ∷ 1 ∷ 0 ∷ [])
 
 -- it is refused with 3, and later served; server 2 has then performed both writes
 pub example2 :
+    let early = run step (new 3) acts2 in
+    let f = act step early (takes 1 (server 2)) in
     T
-    (eqb (answer2 early2) 3
-    && eqb (answer2 late2) 0
-    && same (asked2 late2 .vector .counts) (0 ∷ 1 ∷ 0 ∷ 0 ∷ 0 ∷ 0 ∷ 0 ∷ 0 ∷ [])
-    && sameRecords (writes (late2 .servers 2)) (note 0 8 (1 ∷ 1 ∷ 0 ∷ []) ∷ first2 ∷ []))
-unfolding computed newFarm start asking hearing recordOf stepAt serving servingCut telling act run afterRead afterWrite maximum message
+    (eqb (answer early 2) 3
+    && eqb (answer f 2) 0
+    && same (asked5 f .vector .counts) (0 ∷ 1 ∷ 0 ∷ 0 ∷ 0 ∷ 0 ∷ 0 ∷ 0 ∷ [])
+    && sameRecords (asked5 f .seen) (first2 ∷ first2 ∷ [])
+    && sameRecords (performedBy f (server 2)) (second2 ∷ first2 ∷ []))
+unfolding acted
 example2 = tt
 
 -- ---- example 8: the read that takes the checkpoint is cut after 29 stores
 
 abbrev pub acts8 : List Act
-acts8 = writes5 7 ∷ serves 0 (server 0) ∷ reads5 ∷ serves 0 (server 0) ∷ hears 0 ∷ reads5 ∷ []
+acts8 =
+    writes5 7 ∷ serves 0 (server 0) ∷ reads5 ∷ serves 0 (server 0) ∷ hears 0 ∷ reads5 ∷ cutServing 0 (server 0) 29 ∷ []
 
-abbrev pub cut8 : Farm
-cut8 = act (run (new 2) acts8) (cutServing 0 (server 0) 29)
+abbrev pub cut8 : Rule → Farm
+cut8 rule = run rule (new 2) acts8
 
-abbrev first8 : Record
+abbrev pub first8 : Record
 first8 = note 0 7 (1 ∷ 0 ∷ [])
 
+-- a write and a read were performed, a second read was begun
 pub example8 :
+    let f = cut8 step in
     T
-    (eqb (checkpointCount (cut8 .servers 0 .image)) 1
-    && eqb (logCount (cut8 .servers 0 .image)) 1
-    && sameRecords (writes (act cut8 (recovers (server 0)) .servers 0)) (first8 ∷ []))
-unfolding computed newFarm start asking hearing recordOf stepAt serving servingCut telling act run afterRead afterWrite maximum message
+    (eqb (checkpointCount (f .servers 0 .image)) 1
+    && eqb (logCount (f .servers 0 .image)) 1
+    && eqb (length (f .ledger .performed 0)) 2
+    && eqb (length (f .ledger .begun 0)) 3
+    && sameRecords (did f 0) (first8 ∷ [])
+    && sameRecords (performedBy (act step f (comesBack 0)) (server 0)) (first8 ∷ []))
+unfolding acted
 example8 = tt
+
+-- ---- example 7: a write cut after 29 stores appears, though nobody was told that it was performed; and it stays, through a second cut
+
+abbrev acts7 : List Act
+acts7 = writes5 7 ∷ cutServing 0 (server 0) 29 ∷ []
+
+pub example7 :
+    let f = run step (new 2) acts7 in
+    let g = act step f (comesBack 0) in
+    T
+    (eqb (length (f .ledger .performed 0)) 0
+    && sameRecords (began f 0) (first8 ∷ [])
+    && sameRecords (performedBy g (server 0)) (first8 ∷ [])
+    && sameRecords (performedBy (run step g (cuts (server 0) ∷ comesBack 0 ∷ [])) (server 0)) (first8 ∷ []))
+unfolding acted
+example7 = tt
+
+-- ---- a server shows another's note, is cut and has forgotten it: the same phone is told "not yet", until the server is told again
+
+abbrev shown : List Act
+shown =
+    writes5 7
+    ∷ serves 0 (server 1)
+    ∷ tell 1
+    ∷ takes 0 (server 0)
+    ∷ reads5
+    ∷ serves 0 (server 0)
+    ∷ hears 0
+    ∷ cuts (server 0)
+    ∷ comesBack 0
+    ∷ []
+
+abbrev shown2 : Record
+shown2 = note 1 7 (0 ∷ 1 ∷ [])
+
+pub forgotten :
+    let f = run step (new 2) shown in
+    T
+    (sameRecords (asked5 f .seen) (shown2 ∷ shown2 ∷ [])
+    && sameRecords (performedBy f (server 0)) []
+    && eqb (answer f 0) 3
+    && eqb (answer (act step f (takes 0 (server 0))) 0) 0)
+unfolding acted
+forgotten = tt

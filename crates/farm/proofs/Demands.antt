@@ -1,135 +1,166 @@
--- Demand 3 holds in every run: recovery, and what was read stays read; and what is worth saying beside them.
+-- Demand 3 holds in every run.
 -- Assumes nothing.
-use Prim.Native.Nat.{ℕ, _+_, _≤_, _<_}
-use mathlib.Core.List.{List, [], _++_, List·Memᴰ}
-use mathlib.Core.Option.{none}
+use Prim.Native.Nat.{ℕ, _<_}
+use mathlib.Core.Bool.{Bool, true, false, cond, _&&_}
+use mathlib.Core.List.{List, _++_, Memᴰ·append-left}
 use mathlib.Core.Path.{_≡_, ap, sym, subst, _∙_}
 use native.Mathlib.Omega.{arith}
 use borrow.Author.Tests.{eq-eqb}
 use lib.Dec.{eqb}
 use lib.ListN.{length}
-use Rattle.notes.specs.Index.{servers}
-use Rattle.notes.specs.Reply.{first}
-use Rattle.notes.specs.Vector.{at, zeros}
 use Rattle.notes.specs.declared.index.ServerId.{ServerId}
 use Rattle.notes.specs.declared.record.Record.{Record}
 use Rattle.notes.specs.declared.vector.Vector.{Vector}
+use Rattle.notes.specs.Vector.{at}
 use Rattle.notes.proofs.Vectors.{behind-false}
-use Rattle.rules.specs.declared.event.Request.{Request}
-use Rattle.rules.specs.declared.event.What.the-variants as what
-use Rattle.rules.specs.Writes.{server, writesOf, countOf, tally}
-use Rattle.rules.specs.Memory.{Memory, writes}
-use Rattle.rules.specs.Answer.{Effect, finished, unless}
-use Rattle.rules.specs.Image.{checkpoint, log}
-use Rattle.rules.specs.Sound.{recovered, recover, later, sound}
-use Rattle.rules.specs.Request.{isWrite, served, requestRefusals, request}
+use Rattle.rules.specs.Writes.{writesOf, tally}
+use Rattle.rules.specs.Memory.{Memory, withHistory, writes}
+use Rattle.rules.specs.Answer.{Effect}
+use Rattle.rules.specs.Image.{historySize, checkpoint, log}
+use Rattle.rules.specs.Sound as soundness
+use Rattle.rules.specs.Sound.{later}
+use Rattle.rules.specs.Request.{isWrite}
 use Rattle.rules.specs.Step.{plainRefusals, recovery, step}
 use Rattle.laws.proofs.Keeps.{recoveredIn, recovered-writes}
-use Rattle.laws.proofs.Passed as passed
-use Rattle.laws.proofs.Passed.{asked, plain}
-use Rattle.laws.proofs.Writes.{length-tally, at-tally}
-use Rattle.farm.specs.Farm.{Asked, Begun, Farm, run, stepAt, begunRecord}
-use Rattle.farm.specs.Demand.{Reached, Recovers, Recovery, ReadsStay, Standing, inHistory, inMessage, OneName, AllSound}
-use Rattle.farm.proofs.Prefix.{each-mem, mem-keep, keep-mem}
-use Rattle.farm.proofs.Held.{Sane, keeps, Held, held-grows}
-use Rattle.farm.proofs.Known.{Fair, Counted, Knows, Genuine}
-use Rattle.farm.proofs.Steps.{keeps-up, keeps-down, kept-vector}
-use Rattle.farm.proofs.Taken.{one-name, held-all}
-use Rattle.farm.proofs.Inv.{numbered, lists-run, Inv}
-use Rattle.farm.proofs.Moves.{done-none, below-none, at-server, before-sane}
+use Rattle.laws.proofs.Passed.{Granted}
+use Rattle.laws.proofs.Writes.{length-tally}
+use Rattle.farm.specs.Farm.{Attempt, Farm, performedBy, attempted, recordOf, areBytes, Done, isDone, plainly, serve, serving, recover, recovering, run}
+use Rattle.farm.specs.Demand.{_∈_, Lent, Reached, AllSound, Recovered, OwnStay, ReadsStay, Demand3}
+use Rattle.farm.proofs.Prefix.{each-mem, pre-mem, mem-keep, keep-mem, changed-same}
+use Rattle.farm.proofs.Held.{Sane, keeps, Numbered, Covered, sane-long, sane-here}
+use Rattle.farm.proofs.Known.{Covers}
+use Rattle.farm.proofs.Steps.{keeps-up, kept-vector, kept-recover}
+use Rattle.farm.proofs.Taken.{covered-held}
+use Rattle.farm.proofs.Inv.{lists-run, Inv}
+use Rattle.farm.proofs.Moves.{bytes-below, lent-keeps, lent-sane, recovers-to}
+use Rattle.farm.proofs.Serving.{fair, done-low, done-sane, done-granted, done-writes}
 use Rattle.farm.proofs.Runs.{reached-inv, run-inv}
 
-module _ (n : ℕ) (f : Farm) (x : Reached n f) where
-  i : Inv n f
-  i = reached-inv n f x
+module _ (n : ℕ) (f : Farm) (x : Reached step n f) where
+  abbrev pub c : Numbered
+  c = reached-inv n f x .0
 
-  pub recovery-holds : Recovery f
-  unfolding stepAt step recovery recovered writesOf
-  recovery-holds j done =
-      subst (λ (e : Effect). Recovers f j m (e .after)) (sym is)
-      (record { holds = stands ∙ ap (λ (o : ServerId). checkpoint (m .image) ++ later o (checkpoint (m .image)) (log (m .image))) (sane .own); noneMissing = kept; asked = begun })
+  abbrev pub i : Inv n c f
+  i = reached-inv n f x .1
+
+  pub all-sound : AllSound step n f
+  all-sound j l = i .seats .sits (j .0) l .sound
+
+  -- ---- recovery
+  module _ (j : ServerId) (low : j .0 < n) (down : f .servers (j .0) .state .up ≡ false) (history : List ℕ) (lent : Lent history historySize) where
+    abbrev m : Memory
+    m = f .servers (j .0)
+
+    abbrev m′ : Memory
+    m′ = withHistory history m
+
+    sane : Sane n j m′
+    sane = lent-sane n j m down history (i .seats .sits (j .0) low) (lent .room) (bytes-below history (lent .bytes))
+
+    comes-back : Done (recover step f j history)
+    unfolding recover step recovery plainRefusals
+    comes-back = rw (sane-long n j m′ sane, sane .sound, down, sane-here n j m′ sane)
+
+    to : recover step f j history .after ≡ soundness.recover m′
+    to = ap (λ (e : Effect). e .after) (recovers-to n c f i j history comes-back)
+
+    stands : writes (recover step f j history .after) ≡ recoveredIn m′
+    stands = ap writes to ∙ recovered-writes m′ (sane .bytes .image)
+
+    leaves : performedBy (recovering step f j history) j ≡ writes (recover step f j history .after)
+    unfolding recovering
+    leaves =
+        let e = recover step f j history in
+        let done : (areBytes history && isDone (e .reply)) ≡ true = rw (lent .bytes, eq-eqb (e .reply .number) 0 comes-back) in
+        ap (λ (b : Bool). performedBy (cond b (plainly f j e) f) j) done ∙ ap writes (changed-same (f .servers) (j .0) (e .after))
+
+    -- all that was kept
+    all : keeps m ≡ performedBy (recovering step f j history) j
+    unfolding soundness.recover soundness.recoveredState
+    all = sym (lent-keeps n j m down history) ∙ sym (kept-recover n j m′ sane down) ∙ sym (leaves ∙ ap writes to)
+
+    none-missing : (a : Attempt) → a ∈ f .ledger .performed (j .0) → (w : Record) → w ∈ attempted a → w ∈ performedBy (recovering step f j history) j
+    unfolding writesOf
+    none-missing a y w z =
+        let k = each-mem _ (attempted a) (each-mem _ (f .ledger .performed (j .0)) (i .deeds .performed (j .0) low) y) z in
+        let own = subst (λ (l : List Record). w ∈ l) (sym (i .seats .mine (j .0) low)) k in
+        subst (λ (l : List Record). w ∈ l) all (keep-mem (λ (r : Record). eqb (r .origin .0) (j .0)) (keeps m) own .0)
+
+    recovered : Recovered step f j history
+    unfolding soundness.recover soundness.recoveredState soundness.recovered
+    recovered =
+        record {
+          done = comes-back;
+          up = ap (λ (z : Memory). z .state .up) to;
+          holds = stands ∙ ap (λ (o : ServerId). checkpoint (m .image) ++ later o (checkpoint (m .image)) (log (m .image))) (sane .own);
+          noneMissing = none-missing;
+        }
+
+  -- ---- own writes
+  own-stay : OwnStay step n f
+  unfolding writesOf
+  own-stay acts j low up again w o y =
+      let k = run-inv n c f i acts in
+      let mine : Record → Bool = λ r. eqb (r .origin .0) (j .0) in
+      let m = f .servers (j .0) in
+      let m′ = run step f acts .servers (j .0) in
+      let kept = subst (λ (l : List Record). w ∈ l) (sym (keeps-up m up)) y in
+      let here = subst (λ (l : List Record). w ∈ l) (i .seats .mine (j .0) low) (mem-keep mine (keeps m) (eq-eqb (w .origin .0) (j .0) o) kept) in
+      let there = pre-mem (c (j .0)) (k .lists (j .0)) (k .grows (j .0) low) here in
+      let still = keep-mem mine (keeps m′) (subst (λ (l : List Record). w ∈ l) (sym (k .inv .seats .mine (j .0) low)) there) .0 in
+      subst (λ (l : List Record). w ∈ l) (keeps-up m′ again) still
+
+  -- ---- what was read stays read
+  reads-stay : ReadsStay step n f
+  unfolding serving
+  reads-stay q cell j y e done w wy =
+      subst (λ (l : List Record). w ∈ l)
+      (sym (ap writes (changed-same (f .servers) (j .0) (serve step f j q .after)) ∙ done-writes n c f i j q done (fair n c f i j q y .numbers)))
+      (Memᴰ·append-left (recordOf m (q .phone) (q .request)) performed)
     where
       m : Memory
       m = f .servers (j .0)
 
-      low : j .0 < n
-      low = at-server n f i j what.Recovery zeros [] done (below-none n f i)
-
       sane : Sane n j m
-      sane = before-sane n f i j what.Recovery zeros [] done (below-none n f i)
+      sane = done-sane n c f i j q done
 
-      p : first (plainRefusals m (m .state .up) j) ≡ none
-      p = done-none (first (plainRefusals m (m .state .up) j)) m (finished (recover m)) done
+      a : Granted m j (q .phone) (q .request) (q .vector)
+      a = done-granted n c f i j q done
 
-      is : stepAt f j what.Recovery zeros [] ≡ finished (recover m)
-      is = ap (λ r. unless r m (finished (recover m))) p
+      knew : Covers n c (q .vector) (q .seen)
+      knew = fair n c f i j q y .knew (ap isWrite e)
 
-      stands : writes (recover m) ≡ recoveredIn m
-      stands = recovered-writes m (sane .bytes .image)
-
-      all : keeps m ≡ writes (recover m)
-      all = keeps-down m (plain m (m .state .up) j p .right) ∙ sym stands
-
-      kept : (b : Begun) → List·Memᴰ b (f .told .performed (j .0)) → (w : Record) → List·Memᴰ w (begunRecord b) → List·Memᴰ w (writes (recover m))
-      kept b y w z =
-          let k = each-mem _ (begunRecord b) (each-mem _ (f .told .performed (j .0)) (i .deeds .performed (j .0) low) y) z in
-          subst (List·Memᴰ w) all (keep-mem (λ (r : Record). eqb (r .origin .0) (j .0)) (keeps m) k .0)
-
-      begun : (w : Record) → List·Memᴰ w (writes (recover m)) → w .origin .0 ≡ j .0 → (b : Begun) × List·Memᴰ b (f .told .begun (j .0)) × List·Memᴰ (b .asked) (f .sent .requests) × List·Memᴰ w (begunRecord b)
-      begun w y o =
-          let a = i .deeds .begun (j .0) low w (mem-keep (λ (r : Record). eqb (r .origin .0) (j .0)) (keeps m) (eq-eqb (w .origin .0) (j .0) o) (subst (List·Memᴰ w) (sym all) y)) in
-          (a .began, a .listed, a .asked, a .gives)
-
-  pub reads-stay : ReadsStay f
-  unfolding stepAt step request
-  reads-stay q y cell e j done h hy w wy =
-      subst (List·Memᴰ w) (keeps-up m (a .up))
-      (held-all n (numbered (f .servers)) (x .few) (lists-run n (f .servers) (i .seats)) (keeps m) h (i .seats .held (j .0) low) (k .held) counts w wy)
-    where
-      m : Memory
-      m = f .servers (j .0)
-
-      low : j .0 < n
-      low = at-server n f i j (what.Request (q .phone) (q .request)) (q .vector) [] done (below-none n f i)
-
-      sane : Sane n j m
-      sane = before-sane n f i j (what.Request (q .phone) (q .request)) (q .vector) [] done (below-none n f i)
-
-      a : passed.Asked m j (q .phone) (q .request) (q .vector)
-      a = asked m j (q .phone) (q .request) (q .vector) (done-none (first (requestRefusals m j (q .phone) (q .request) (q .vector))) m (served m (q .phone) (q .request)) done)
-
-      knew : Knows n (numbered (f .servers)) (q .vector) (q .seen)
-      knew = each-mem (Fair n (numbered (f .servers))) (f .sent .requests) (i .flight .requests) y .knew (ap isWrite e)
-
-      k : Counted n (numbered (f .servers)) (q .vector) h
-      k = each-mem (Counted n (numbered (f .servers)) (q .vector)) (q .seen) (knew .each) hy
+      k : Covered n c (q .vector) w
+      k = each-mem (Covered n c (q .vector)) (q .seen) (knew .each) wy
 
       v : m .state .vector ≡ tally (keeps m)
       v = kept-vector n j m sane (a .up)
 
-      counts : (o : ℕ) → o < n → countOf (server o) h ≤ countOf (server o) (keeps m)
-      counts o l =
+      -- the server is not behind the request, so that its V counts what the request's vector counts
+      covered : Covered n c (tally (keeps m)) w
+      covered =
           let eight = ap (λ (v : Vector). length (v .counts)) v ∙ length-tally (keeps m) in
-          omega (
-            arith,
-            k .counted o l,
-            behind-false (m .state .vector) (q .vector) (eight ∙ sym (knew .eight)) (a .ahead) (server o),
-            ap (λ (v : Vector). at v (server o)) v ∙ at-tally (keeps m) (server o) (omega (arith, x .few)),
-          )
+          record {
+            placed = k .placed;
+            counted =
+                omega (
+                  arith,
+                  k .counted,
+                  behind-false (m .state .vector) (q .vector) (eight ∙ sym (knew .eight)) (a .ahead) (w .origin),
+                  ap (λ (v : Vector). at v (w .origin)) v,
+                );
+          }
 
-  pub all-sound : AllSound n f
-  all-sound j l = i .seats .sits (j .0) l .sound
+      performed : w ∈ writes m
+      performed =
+          subst (λ (l : List Record). w ∈ l) (keeps-up m (a .up))
+          (covered-held n c (x .few) (lists-run n c (f .servers) (i .seats)) (keeps m) (i .seats .held (j .0) (done-low n c f i j q done)) w covered)
 
-standing-held : (n : ℕ) (f : Farm) → Inv n f → (h : List Record) → Standing n f h → Held n (numbered (f .servers)) h
-standing-held n f i h (inHistory j l up) = subst (Held n (numbered (f .servers))) (keeps-up (f .servers (j .0)) up) (i .seats .held (j .0) l)
-standing-held n f i h (inMessage msg y) = each-mem (Genuine n (numbered (f .servers))) (f .sent .updates) (i .flight .updates) y .held
-
-pub names-one : (n : ℕ) (f : Farm) → Reached n f → OneName n f
-names-one n f r acts h g sh sg =
-    let i = reached-inv n f r in
-    let k = run-inv n f i acts in
-    let c = numbered (f .servers) in
-    let d = numbered (run f acts .servers) in
-    one-name n d (r .few) (lists-run n (run f acts .servers) (k .inv .seats)) h g
-    (held-grows n c d (k .grows) h (standing-held n f i h sh))
-    (standing-held n (run f acts) (k .inv) g sg)
+pub demand-3 : (n : ℕ) (f : Farm) → Reached step n f → Demand3 step n f
+demand-3 n f x =
+    record {
+      allSound = all-sound n f x;
+      recovery = recovered n f x;
+      ownStay = own-stay n f x;
+      readsStay = reads-stay n f x;
+    }

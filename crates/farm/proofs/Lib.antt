@@ -11,6 +11,9 @@ pub mod Moves
 pub mod Serving
 pub mod Runs
 pub mod Demands
+pub mod Beside
+pub mod Gaps
 pub mod Welcome
 pub mod Worked
+pub mod Excluded
 pub mod Limits

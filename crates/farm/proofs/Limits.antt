@@ -8,7 +8,6 @@ use lib.ListN.{replicate}
 use Rattle.notes.specs.Record.{recordSize, recordBytes}
 use Rattle.notes.specs.Message.{messageOf}
 use Rattle.notes.specs.declared.record.Record.{Record}
-use Rattle.rules.specs.declared.event.What.the-variants as what
 use Rattle.rules.specs.Writes.{server}
 use Rattle.rules.specs.Memory.{Memory, memory, noReads}
 use Rattle.rules.specs.Image.{historySize, headerOf}

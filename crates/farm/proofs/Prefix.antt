@@ -10,6 +10,8 @@ use native.Mathlib.Decide.{ℕ-discrete}
 use native.Mathlib.Omega.{arith}
 use borrow.Author.Tests.{eq-eqb, ne-eqb}
 use lib.ListN.{length, take, drop, getElem?, length-append, take-append-drop}
+use Rattle.notes.specs.Lists.{every}
+use Rattle.notes.proofs.Lists.{both}
 use Rattle.notes.proofs.Pieces.{Each}
 use Rattle.rules.specs.Writes.{keep, keepIf}
 use Rattle.laws.proofs.Lists.{keep-append}
@@ -76,6 +78,11 @@ module _ {A : Type 0} where
   at-mem (y ∷ ys) (suc k) x e = List·Memᴰ·tail (at-mem ys k x e)
 
   -- ---- those that pass a test
+  pub every-mem : (p : A → Bool) (l : List A) {x : A} → every p l ≡ true → List·Memᴰ x l → p x ≡ true
+  unfolding every
+  every-mem p l h (List·Memᴰ·head {x = y} {xs = ys} e) = ap p e ∙ both (p y) (every p ys) h .0
+  every-mem p l h (List·Memᴰ·tail {x = y} {xs = ys} m) = every-mem p ys (both (p y) (every p ys) h .1) m
+
   pub pre-keep : (p : A → Bool) (a b : List A) → Pre a b → Pre (keep p a) (keep p b)
   pre-keep p a b h = (keep p (h .0), sym (keep-append p a (h .0)) ∙ ap (keep p) (h .1))
 

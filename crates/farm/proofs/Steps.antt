@@ -11,7 +11,6 @@ use lib.ListN.{length, take, drop, length-append, length-replicate}
 use lib.Seq.{length-sets, take-nil}
 use Rattle.notes.specs.Lists.{every}
 use Rattle.notes.specs.Bytes.{toBytes}
-use Rattle.notes.specs.Reply.{first}
 use Rattle.notes.specs.Index.{servers}
 use Rattle.notes.specs.Record.{decode, encode, wellFormed}
 use Rattle.notes.specs.Message.{historyMost}
@@ -27,10 +26,9 @@ use Rattle.notes.proofs.Messages.{Server, server-facts}
 use Rattle.rules.specs.declared.event.Event.{Event}
 use Rattle.rules.specs.declared.event.Request.{Request}
 use Rattle.rules.specs.declared.event.Request.the-variants.{Read, Write}
-use Rattle.rules.specs.declared.event.What.the-variants as what
 use Rattle.rules.specs.declared.state.State.{State}
 use Rattle.rules.specs.Writes.{writesOf, countOf, tally}
-use Rattle.rules.specs.Memory.{Memory, memory, withState, downOf, noting, writes}
+use Rattle.rules.specs.Memory.{Memory, memory, withState, downOf, writes}
 use Rattle.rules.specs.Image.{historySize, imageSize, headerOk, checkpoint, log, stored}
 use Rattle.rules.specs.Sound.{recovered, recoveredState, recoveredHistory, recover, isZero, suits, soundUp, soundDown, sound}
 use Rattle.rules.specs.Request.{newRecord, written, noted, cleared, due, ownPlan, plan, ready, performed, served, cutAfter}
@@ -40,7 +38,7 @@ use Rattle.laws.proofs.Writes.{InTurn, From, same-server}
 use Rattle.laws.proofs.Stores.{Shows, length-stored, laid-of}
 use Rattle.laws.proofs.Sound.{Facts, facts, kept-all, log-empty, own-again, others-none}
 use Rattle.laws.proofs.Open.{Up, opened, own-low, recovers-lacked}
-use Rattle.laws.proofs.Passed.{Asked, Brought}
+use Rattle.laws.proofs.Passed.{Granted, Brought}
 use Rattle.laws.proofs.Newest.{like}
 use Rattle.laws.proofs.Reading.{ready-is, cp, OnTheWay, before, between, after, checkpoint-way}
 use Rattle.laws.proofs.Writing as writing
@@ -212,7 +210,7 @@ module _ (n : ℕ) (j : ServerId) (m : Memory) (s : Sane n j m) where
 
   -- ---- served, updated, recovered
   pub kept-read :
-      (i : PhoneId) (cell : ℕ) (v : Vector) → Asked m j i (Read cell) v → keeps (served m i (Read cell) .after) ≡ keeps m
+      (i : PhoneId) (cell : ℕ) (v : Vector) → Granted m j i (Read cell) v → keeps (served m i (Read cell) .after) ≡ keeps m
   unfolding served performed
   kept-read i cell v a = let e = ready-is m i (Read cell) in rw (ap (λ t. t .up) e, ap (λ t. t .held) e, a .up)
 
@@ -220,7 +218,7 @@ module _ (n : ℕ) (j : ServerId) (m : Memory) (s : Sane n j m) where
       (i : PhoneId)
       (cell value time : ℕ)
       (v : Vector)
-      (a : Asked m j i (Write cell value time) v)
+      (a : Granted m j i (Write cell value time) v)
       (small : value < 4294967296)
       (soon : time < 4294967296)
     where
@@ -297,7 +295,7 @@ module _ (n : ℕ) (j : ServerId) (m : Memory) (s : Sane n j m) where
 
   pub kept-cut-read :
       (i : PhoneId) (cell k : ℕ) (v : Vector)
-      → Asked m j i (Read cell) v
+      → Granted m j i (Read cell) v
       → Kept j (keeps m) [] (keeps (cutAfter m i (Read cell) k .after))
   unfolding cutAfter plan ownPlan stored
   kept-cut-read i cell k v a = rw append-nil (go (due m i (Read cell)))
@@ -316,7 +314,7 @@ module _ (n : ℕ) (j : ServerId) (m : Memory) (s : Sane n j m) where
 
   pub kept-cut-write :
       (i : PhoneId) (cell value time k : ℕ) (v : Vector)
-      → Asked m j i (Write cell value time) v
+      → Granted m j i (Write cell value time) v
       → value < 4294967296
       → time < 4294967296
       → Kept j (keeps m) [] (keeps (cutAfter m i (Write cell value time) k .after))

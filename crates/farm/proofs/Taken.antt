@@ -1,9 +1,8 @@
--- Where a write stands among its origin's; and what an update's writes add to a history that begins as the farm's lists do.
+-- Where a write stands among its origin's, what a vector means, and what an update's writes add to a history.
 -- Assumes nothing.
 use Prim.Native.Nat.{ℕ, _+_, _≤_, _<_}
 use mathlib.Core.Bool.{Bool, true, false, cond}
-use mathlib.Core.List.{List, [], _∷_, _++_, append-assoc, append-nil, List·Memᴰ, List·Memᴰ·head, List·Memᴰ·tail, head-eq-of-cons-eq}
-use mathlib.Core.Option.{none}
+use mathlib.Core.List.{List, [], _∷_, _++_, append-assoc, append-nil, List·Memᴰ·head, List·Memᴰ·tail, Memᴰ·append-right, head-eq-of-cons-eq}
 use mathlib.Core.Path.{_≡_, refl, ap, sym, subst, _∙_}
 use native.Mathlib.Decide.{ℕ-discrete}
 use native.Mathlib.Omega.{arith}
@@ -18,19 +17,21 @@ use Rattle.notes.specs.Record.{number, wellFormed}
 use Rattle.notes.specs.declared.index.ServerId.{ServerId}
 use Rattle.notes.specs.declared.record.Record.{Record}
 use Rattle.notes.specs.declared.vector.Vector.{Vector}
-use Rattle.notes.proofs.Lists.{both, every-append}
+use Rattle.notes.proofs.Lists.{every-append}
+use Rattle.notes.proofs.Pieces.{Each}
 use Rattle.rules.specs.declared.answer.Refusal.{Refusal}
 use Rattle.rules.specs.declared.answer.Refusal.the-variants.{Gap, OwnAhead}
 use Rattle.rules.specs.Writes.{keep, counting, server, writesOf, countOf, tally}
 use Rattle.rules.specs.Step.{Turn, skipped, appended, refuses, atTurn, vectorAfter, Taken, andThen, taken}
-use Rattle.laws.proofs.Writes.{From, from-drop, at-tally, tally-more, same-server, writesOf-append, writesOf-here, writesOf-other, countOf-append}
+use Rattle.laws.proofs.Writes.{From, from-drop, at-tally, tally-more, same-server, writesOf-append, writesOf-here, writesOf-other}
 use Rattle.laws.proofs.Sound.{Next, formed-origin}
-use Rattle.farm.proofs.Prefix.{Pre, append-parts, pre-length, pre-pre, pre-more, pre-mem, mem-keep, keep-mem}
-use Rattle.farm.proofs.Held.{Numbered, Held}
+use Rattle.farm.specs.Demand.{_∈_}
+use Rattle.farm.proofs.Prefix.{Pre, append-parts, pre-refl, pre-pre, pre-more, pre-mem, mem-keep, keep-mem, every-mem}
+use Rattle.farm.proofs.Held.{Numbered, Placed, Covered, Held}
 
 -- ---- a write at its turn: skipped, or the next of another origin, or ahead
 module _ (own : ServerId) (v : Vector) (r : Record) where
-  turned :
+  pub turned :
       (P : Turn → Type 0)
       → (number r ≤ at v (r .origin) → P skipped)
       → (Next own v r → P appended)
@@ -92,7 +93,7 @@ module _ (own : ServerId) (g rs : List Record) (r : Record) (low : r .origin .0 
       here = at-tally g (r .origin) low
 
 -- ---- the writes of a write's origin, and of others
-writes-at :
+pub writes-at :
     (r : Record) (d rest : List Record)
     → writesOf (r .origin) (d ++ r ∷ rest) ≡ writesOf (r .origin) d ++ r ∷ writesOf (r .origin) rest
 writes-at r d rest =
@@ -113,144 +114,104 @@ one-more P r g h k o = go (ℕ-discrete (r .origin .0) (o .0))
     go (yes e) = subst (λ (o : ServerId). P o (writesOf o (g ++ r ∷ []))) (same-server (r .origin) o e) (rw (writes-at r g []) h)
     go (no e) = rw (writesOf-append o g (r ∷ []), writesOf-other o r e, append-nil) (k o)
 
--- ---- where a write stands: of its origin's the next after those of `d`
-pub record Stands (n : ℕ) (c : Numbered) (d : List Record) (r : Record) : Type 0 where
-  pub formed : wellFormed n r ≡ true
-  pub low : r .origin .0 < n
-  pub after : List Record
-  pub here : writesOf (r .origin) d ++ r ∷ after ≡ c (r .origin .0)
-  pub place : number r ≡ countOf (r .origin) d + 1
-
 from-next : (p q : List Record) (r : Record) → From 0 (p ++ r ∷ q) → number r ≡ length p + 1
 unfolding counting
 from-next p q r f =
     let e = rw drop-append-seam at (from-drop 0 (length p) (p ++ r ∷ q) f) in omega (arith, ap (λ (l : List ℕ). getD l 0 0) e)
 
-mem-split : (l : List Record) (x : Record) → List·Memᴰ x l → (p q : List Record) × (p ++ x ∷ q ≡ l)
+pub mem-split : (l : List Record) (x : Record) → x ∈ l → (p q : List Record) × (p ++ x ∷ q ≡ l)
 mem-split l x (List·Memᴰ·head {x = y} {xs = ys} e) = ([], ys, ap (λ (z : Record). z ∷ ys) e)
 mem-split l x (List·Memᴰ·tail {x = y} {xs = ys} m) =
     let s = mem-split ys x m in (y ∷ s .0, s .1, ap (λ (z : List Record). y ∷ z) (s .2))
 
-module _ (n : ℕ) (c : Numbered) (few : n ≤ servers) (runs : (o : ℕ) → o < n → From 0 (c o)) where
-  pub stands : (d rest : List Record) (r : Record) → Held n c (d ++ r ∷ rest) → Stands n c d r
-  unfolding every
-  stands d rest r k =
-      let mine = writesOf (r .origin) in
-      let w = both (wellFormed n r) _ (both (every (wellFormed n) d) _ (rw every-append at (k .formed)) .1) .0 in
-      let l = formed-origin n r w in
-      let b = rw (writes-at r d rest) at (k .begins (r .origin .0) l) in
-      let e : mine d ++ r ∷ (mine rest ++ b .0) ≡ c (r .origin .0) = sym (append-assoc (mine d) (r ∷ mine rest) (b .0)) ∙ b .1 in
-      record {
-        formed = w;
-        low = l;
-        after = mine rest ++ b .0;
-        here = e;
-        place = from-next (mine d) (mine rest ++ b .0) r (rw e (runs (r .origin .0) l));
-      }
+-- where a write stands in its origin's list: as many are before it as its number says
+record Place (c : List Record) (w : Record) : Type 0 where
+  pub before : List Record
+  pub after : List Record
+  pub here : before ++ w ∷ after ≡ c
+  pub place : number w ≡ length before + 1
 
-  pub held-stands : (h : List Record) → Held n c h → (w : Record) → List·Memᴰ w h → (d : List Record) × Stands n c d w
-  held-stands h k w m = let s = mem-split h w m in (s .0, stands (s .0) (s .1) w (rw (s .2) k))
+module _ (n : ℕ) (c : Numbered) (few : n ≤ servers) (runs : (o : ℕ) → o < n → From 0 (c o)) where
+  -- a write's number tells how many of its origin are before it, in the list and where it begins
+  pub number-at : (o : ℕ) → o < n → (l p q : List Record) (r : Record) → Pre l (c o) → p ++ r ∷ q ≡ l → number r ≡ length p + 1
+  number-at o low l p q r b e =
+      from-next p (q ++ b .0) r
+      (rw (sym (append-assoc p (r ∷ q) (b .0)) ∙ ap (λ (l : List Record). l ++ b .0) e ∙ b .1) (runs o low))
+
+  placed-at : (w : Record) → Placed n c w → Place (c (w .origin .0)) w
+  placed-at w p =
+      let o = w .origin .0 in
+      let s = mem-split (c o) w (p .listed) in
+      record { before = s .0; after = s .1; here = s .2; place = number-at o (p .low) (c o) (s .0) (s .1) w (pre-refl (c o)) (s .2) }
 
   -- an origin and a number name one write
-  pub one-name :
-      (h g : List Record)
-      → Held n c h
-      → Held n c g
-      → (w x : Record)
-      → List·Memᴰ w h
-      → List·Memᴰ x g
-      → w .origin .0 ≡ x .origin .0
-      → number w ≡ number x
-      → w ≡ x
-  one-name h g k j w x m l o e =
-      let a = held-stands h k w m in
-      let b = held-stands g j x l in
+  pub one-name : (w x : Record) → Placed n c w → Placed n c x → w .origin .0 ≡ x .origin .0 → number w ≡ number x → w ≡ x
+  one-name w x k l o e =
+      let a = placed-at w k in
+      let b = placed-at x l in
       head-eq-of-cons-eq
-      (append-parts (writesOf (w .origin) (a .0)) (writesOf (x .origin) (b .0)) _ _ (omega (arith, a .1 .place, b .1 .place))
-      (a .1 .here ∙ ap c o ∙ sym (b .1 .here)) .1)
+      (append-parts (a .before) (b .before) _ _ (omega (arith, a .place, b .place)) (a .here ∙ ap c o ∙ sym (b .here)) .1)
 
-  -- where no count is lower, no write is lacking
-  pub held-all :
-      (h g : List Record)
-      → Held n c h
-      → Held n c g
-      → ((o : ℕ) → o < n → countOf (server o) g ≤ countOf (server o) h)
-      → (w : Record)
-      → List·Memᴰ w g
-      → List·Memᴰ w h
+  pub held-placed : (h : List Record) → Held n c h → (w : Record) → w ∈ h → Placed n c w
   unfolding writesOf
-  held-all h g k j f w m =
+  held-placed h k w m =
+      let f = every-mem (wellFormed n) h (k .formed) m in
       let o = w .origin .0 in
-      let l = held-stands g j w m .1 .low in
-      let p = pre-pre (writesOf (server o) g) (writesOf (server o) h) (c o) (j .begins o l) (k .begins o l) (f o l) in
-      keep-mem _ h (pre-mem _ _ p (mem-keep _ g (eq-eqb o o refl) m)) .0
-
-  -- ---- an update's writes, those of `d` looked at already
-  held-more :
-      (g d : List Record) (r : Record)
-      → Held n c g
-      → Stands n c d r
-      → number r ≡ countOf (r .origin) g + 1
-      → Held n c (g ++ r ∷ [])
-  unfolding every
-  held-more g d r h s e =
+      let low = formed-origin n w f in
       record {
-        formed = rw (every-append (wellFormed n) g (r ∷ []), h .formed, s .formed);
+        formed = f;
+        low = low;
+        listed = pre-mem (writesOf (server o) h) (c o) (k .begins o low) (mem-keep _ h (eq-eqb o o refl) m);
+      }
+
+  -- ---- what a vector means: a write is among those that it counts exactly if it is in its origin's list, numbered at most as it says
+  pub held-covered : (h : List Record) → Held n c h → (w : Record) → w ∈ h → Covered n c (tally h) w
+  unfolding writesOf
+  held-covered h k w m =
+      let p = held-placed h k w m in
+      let o = w .origin .0 in
+      let s = mem-split (writesOf (server o) h) w (mem-keep _ h (eq-eqb o o refl) m) in
+      let place = number-at o (p .low) (writesOf (server o) h) (s .0) (s .1) w (k .begins o (p .low)) (s .2) in
+      record {
+        placed = p;
+        counted = omega (arith, place, ap length (s .2), length-append (s .0) (w ∷ s .1), at-tally h (w .origin) (omega (arith, p .low)));
+      }
+
+  pub covered-held : (h : List Record) → Held n c h → (w : Record) → Covered n c (tally h) w → w ∈ h
+  unfolding writesOf
+  covered-held h k w v =
+      let o = w .origin .0 in
+      let low = v .placed .low in
+      let s = placed-at w (v .placed) in
+      let until = s .before ++ w ∷ [] in
+      let p : Pre until (c o) = (s .after, append-assoc (s .before) (w ∷ []) (s .after) ∙ s .here) in
+      let q =
+      pre-pre until (writesOf (server o) h) (c o) p (k .begins o low)
+      (omega (arith, length-append (s .before) (w ∷ []), s .place, v .counted, at-tally h (w .origin) (omega (arith, low)))) in
+      keep-mem _ h (pre-mem until (writesOf (server o) h) q (Memᴰ·append-right (s .before) (List·Memᴰ·head refl))) .0
+
+  -- ---- an update's writes
+  held-more :
+      (g : List Record) (r : Record) → Held n c g → Placed n c r → number r ≡ countOf (r .origin) g + 1 → Held n c (g ++ r ∷ [])
+  unfolding every
+  held-more g r h k e =
+      record {
+        formed = rw (every-append (wellFormed n) g (r ∷ []), h .formed, k .formed);
         begins = λ o. one-more (λ o l. o .0 < n → Pre l (c (o .0))) r g (λ k. mine) (λ o k. h .begins (o .0) k) (server o);
       }
     where
       mine : Pre (writesOf (r .origin) g ++ r ∷ []) (c (r .origin .0))
       mine =
-          pre-more (writesOf (r .origin) g) (writesOf (r .origin) d) (s .after) (c (r .origin .0)) r
-          (h .begins (r .origin .0) (s .low)) (s .here) (omega (arith, s .place))
+          let s = placed-at r k in
+          pre-more (writesOf (r .origin) g) (s .before) (s .after) (c (r .origin .0)) r (h .begins (r .origin .0) (k .low)) (s .here)
+          (omega (arith, s .place))
 
-  taken-from : (own : ServerId) (d g rs : List Record) → Held n c (d ++ rs) → Held n c g → Held n c (g ++ taken own (tally g) rs .new)
+  pub taken-held :
+      (own : ServerId) (g rs : List Record) → Each (Placed n c) rs → Held n c g → Held n c (g ++ taken own (tally g) rs .new)
   unfolding taken
-  taken-from own d g [] k h = rw append-nil h
-  taken-from own d g (r ∷ rs) k h =
-      let s = stands d rs r k in
-      let next : Held n c (d ++ r ∷ [] ++ rs) = rw append-assoc k in
-      turned-tally own g rs r (omega (arith, s .low)) (λ t. Held n c (g ++ t .new))
-      (λ e. taken-from own (d ++ r ∷ []) g rs next h)
-      (λ e. rw append-assoc at (taken-from own (d ++ r ∷ []) (g ++ r ∷ []) rs next (held-more g d r h s e)))
+  taken-held own g [] k h = rw append-nil h
+  taken-held own g (r ∷ rs) k h =
+      turned-tally own g rs r (omega (arith, k .0 .low)) (λ t. Held n c (g ++ t .new))
+      (λ e. taken-held own g rs (k .1) h)
+      (λ e. rw append-assoc at (taken-held own (g ++ r ∷ []) rs (k .1) (held-more g r h (k .0) e)))
       (λ x l o. rw append-nil h)
-
-  pub taken-held : (own : ServerId) (h rs : List Record) → Held n c h → Held n c rs → Held n c (h ++ taken own (tally h) rs .new)
-  taken-held own h rs k j = taken-from own [] h rs j k
-
-  -- no write is ahead while the history has no fewer of each origin than were looked at, and all own ones
-  none-from :
-      (own : ServerId) (d g rs : List Record)
-      → Held n c (d ++ rs)
-      → ((o : ServerId) → o .0 < n → countOf o d ≤ countOf o g)
-      → countOf own (d ++ rs) ≤ countOf own g
-      → taken own (tally g) rs .refusal ≡ none
-  unfolding taken
-  none-from own d g [] k a m = refl
-  none-from own d g (r ∷ rs) k a m =
-      let s = stands d rs r k in
-      let p = length-append (writesOf (r .origin) d) (r ∷ []) in
-      let next : Held n c (d ++ r ∷ [] ++ rs) = rw append-assoc k in
-      let mine : countOf own (d ++ r ∷ [] ++ rs) ≤ countOf own g = rw append-assoc m in
-      turned-tally own g rs r (omega (arith, s .low)) (λ t. t .refusal ≡ none)
-      (λ e.
-      none-from own (d ++ r ∷ []) g rs next (one-more (λ o l. o .0 < n → length l ≤ countOf o g) r d (λ l. omega (arith, s .place)) a) mine)
-      (λ e.
-      none-from own (d ++ r ∷ []) (g ++ r ∷ []) rs next
-      (λ o l. omega (arith, countOf-append o d (r ∷ []), countOf-append o g (r ∷ []), a o l))
-      (omega (arith, countOf-append own g (r ∷ []))))
-      (λ x l o.
-      let q = same-server (r .origin) own (o (omega (arith, s .place, a (r .origin) (s .low)))) in
-      let all : number r ≤ countOf (r .origin) (d ++ r ∷ rs) = rw (writes-at r d rs, length-append) (omega (arith, s .place)) in
-      absurd (omega (arith, rw (← q) at m)))
-
-  pub none-refused :
-      (own : ServerId) (h rs : List Record)
-      → own .0 < n
-      → writesOf own h ≡ c (own .0)
-      → Held n c h
-      → Held n c rs
-      → taken own (tally h) rs .refusal ≡ none
-  unfolding writesOf keep
-  none-refused own h rs l e k j =
-      none-from own [] h rs j (λ o l. omega arith) (rw e (pre-length (writesOf own rs) (c (own .0)) (j .begins (own .0) l)))

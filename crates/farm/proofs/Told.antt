@@ -2,7 +2,7 @@
 -- Assumes nothing.
 use Prim.Native.Nat.{ℕ, _<_}
 use mathlib.Core.Bool.{true}
-use mathlib.Core.List.{List, [], _∷_, _++_}
+use mathlib.Core.List.{List, _∷_, _++_}
 use mathlib.Core.Option.{Option, none, some, Option·map}
 use mathlib.Core.Path.{_≡_, refl, _∙_}
 use native.Mathlib.Omega.{arith}
@@ -22,7 +22,6 @@ use Rattle.notes.proofs.Records.{Fits, length-records, records-fit}
 use Rattle.notes.proofs.Messages.{server-facts, said-n, said-sender}
 use Rattle.notes.proofs.Round.{brought-back, written-right}
 use Rattle.rules.specs.declared.answer.Refusal.{Refusal}
-use Rattle.rules.specs.declared.answer.Verdict.the-variants as verdict
 use Rattle.rules.specs.Answer.{refusalReply, isDown}
 use Rattle.rules.specs.Memory.{Memory, writes}
 use Rattle.rules.specs.Sound.{sound}

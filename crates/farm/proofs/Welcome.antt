@@ -1,18 +1,16 @@
 -- No server of a farm is told 6, but of its own message, and no message in flight is told 7 or 8.
 -- Assumes nothing.
 use Prim.Native.Nat.{ℕ, _+_, _<_}
-use mathlib.Core.Bool.{Bool, true, false, cond, not, _&&_, true≢false}
-use mathlib.Core.List.{List, [], _∷_, _++_, List·Memᴰ}
+use mathlib.Core.Bool.{Bool, true, false, cond, not, true≢false}
+use mathlib.Core.List.{List, [], _∷_, _++_}
 use mathlib.Core.Option.{Option, none, some}
 use mathlib.Core.Path.{_≡_, refl, ap, sym, _∙_}
 use native.Mathlib.Omega.{arith}
-use borrow.Author.Tests.{eqb-true, eq-eqb, le-ltb}
+use borrow.Author.Tests.{eqb-true, eq-eqb}
 use lib.Dec.{eqb, leb}
 use lib.ListN.{length}
-use Rattle.notes.specs.Index.{servers}
 use Rattle.notes.specs.Reply.{given, first}
 use Rattle.notes.specs.Message.{historyMost, brought, messageN, messageSender}
-use Rattle.notes.specs.Record.{number}
 use Rattle.notes.specs.Vector.{zeros, behind}
 use Rattle.notes.specs.declared.index.PhoneId.{PhoneId}
 use Rattle.notes.specs.declared.index.ServerId.{ServerId}
@@ -25,45 +23,34 @@ use Rattle.rules.specs.declared.event.What.{What}
 use Rattle.rules.specs.declared.event.What.the-variants as what
 use Rattle.rules.specs.Memory.{Memory, withState, downOf}
 use Rattle.rules.specs.Answer.{Effect, refusalNumber, finished, unless, short, head, isDown, elsewhere, hereRefusals}
-use Rattle.rules.specs.Image.{historySize, imageSize}
 use Rattle.rules.specs.Sound.{recover, sound}
 use Rattle.rules.specs.Request.{plan, served, cutAfter, outOfRange, fullHistory, fullLog, askRefusals, requestRefusals, countRefusals, request, requestCut}
 use Rattle.rules.specs.Step.{taken, takenFrom, suitable, updateRefusals, update, plainRefusals, cut, recovery, happens, step}
-use Rattle.laws.proofs.Passed as passed
-use Rattle.farm.specs.Farm.{Farm, stepAt}
-use Rattle.farm.specs.Demand.{Reached, Recovery, Welcome}
-use Rattle.farm.proofs.Prefix.{each-mem}
-use Rattle.farm.proofs.Held.{Sane, keeps}
-use Rattle.farm.proofs.Known.{Genuine}
 use Rattle.laws.proofs.Outcomes.{served-number}
+use Rattle.farm.specs.Farm.{Farm, stepAt}
+use Rattle.farm.specs.Demand.{_∈_, Reached}
+use Rattle.farm.specs.Beside.{Welcome}
+use Rattle.farm.proofs.Prefix.{each-mem}
+use Rattle.farm.proofs.Held.{Sane, keeps, sane-long, sane-here}
+use Rattle.farm.proofs.Known.{Genuine}
 use Rattle.farm.proofs.Steps.{kept-vector}
-use Rattle.farm.proofs.Taken.{none-refused}
-use Rattle.farm.proofs.Inv.{numbered, lists-run, Inv}
-use Rattle.farm.proofs.Runs.{reached-inv}
-use Rattle.farm.proofs.Demands.{all-sound}
+use Rattle.farm.proofs.Gaps.{none-refused}
+use Rattle.farm.proofs.Inv.{lists-run}
+use Rattle.farm.proofs.Demands.{c, i, all-sound}
 
 -- ---- an update in flight, at a server
-module _ (n : ℕ) (f : Farm) (x : Reached n f) (j : ServerId) (low : j .0 < n) (msg : List ℕ) (y : List·Memᴰ msg (f .sent .updates)) where
+module _ (n : ℕ) (f : Farm) (x : Reached step n f) (j : ServerId) (low : j .0 < n) (msg : List ℕ) (y : msg ∈ f .sent .updates) where
   abbrev m : Memory
   m = f .servers (j .0)
 
   abbrev e : Effect
-  e = stepAt f j what.Update zeros msg
-
-  inv : Inv n f
-  inv = reached-inv n f x
+  e = stepAt step f j what.Update zeros msg
 
   s : Sane n j m
-  s = inv .seats .sits (j .0) low
+  s = i n f x .seats .sits (j .0) low
 
-  g : Genuine n (numbered (f .servers)) msg
-  g = each-mem (Genuine n (numbered (f .servers))) (f .sent .updates) (inv .flight .updates) y
-
-  not-short : short m ≡ false
-  not-short = rw (le-ltb (length (m .history)) historySize (s .history), le-ltb (length (m .image)) imageSize (s .image))
-
-  here : elsewhere m j ≡ false
-  here = rw (eq-eqb (j .0) (m .state .own .0) (sym (ap (λ (o : ServerId). o .0) (s .own))))
+  g : Genuine n (c n f x) msg
+  g = each-mem (Genuine n (c n f x)) (f .sent .updates) (i n f x .flight .updates) y
 
   -- it fits unless it is the server's own
   fits : suitable m msg ≡ not (eqb (messageSender msg .0) (j .0))
@@ -78,7 +65,7 @@ module _ (n : ℕ) (f : Farm) (x : Reached n f) (j : ServerId) (low : j .0 < n) 
   in-turn up =
       ap (λ (o : ServerId). taken o (m .state .vector) (brought msg) .refusal) (s .own)
       ∙ ap (λ (v : Vector). taken j v (brought msg) .refusal) (kept-vector n j m s up)
-      ∙ none-refused n (numbered (f .servers)) (x .few) (lists-run n (f .servers) (inv .seats)) j (keeps m) (brought msg) low refl (inv .seats .held (j .0) low) (g .held)
+      ∙ none-refused n (c n f x) (x .few) (lists-run n (c n f x) (f .servers) (i n f x .seats)) j (keeps m) (brought msg) low (i n f x .seats .mine (j .0) low) (g .held)
 
   -- what it is answered: 2, 6, 4 or nothing
   abbrev said : Bool → Bool → Bool → ℕ
@@ -86,10 +73,10 @@ module _ (n : ℕ) (f : Farm) (x : Reached n f) (j : ServerId) (low : j .0 < n) 
 
   answered : (b o r : Bool) → m .state .up ≡ b → eqb (messageSender msg .0) (j .0) ≡ o → leb (m .state .held + length (takenFrom m msg .new)) historyMost ≡ r → e .reply .number ≡ said b o r
   unfolding stepAt step update updateRefusals
-  answered true true r p q k = rw (not-short, s .sound, p, here, fits, q)
-  answered true false true p q k = rw (not-short, s .sound, p, here, fits, q, in-turn p, k)
-  answered true false false p q k = rw (not-short, s .sound, p, here, fits, q, in-turn p, k)
-  answered false o r p q k = rw (not-short, s .sound, p)
+  answered true true r p q k = rw (sane-long n j m s, s .sound, p, sane-here n j m s, fits, q)
+  answered true false true p q k = rw (sane-long n j m s, s .sound, p, sane-here n j m s, fits, q, in-turn p, k)
+  answered true false false p q k = rw (sane-long n j m s, s .sound, p, sane-here n j m s, fits, q, in-turn p, k)
+  answered false o r p q k = rw (sane-long n j m s, s .sound, p)
 
   pub welcome : (e .reply .number ≡ 7 → ⊥) × (e .reply .number ≡ 8 → ⊥) × (e .reply .number ≡ 6 → messageSender msg .0 ≡ j .0)
   welcome = go (m .state .up) (eqb (messageSender msg .0) (j .0)) (leb (m .state .held + length (takenFrom m msg .new)) historyMost) refl refl refl
@@ -160,7 +147,7 @@ module _ (m : Memory) (ok : sound m ≡ true) where
   never-six j what.Recovery v msg other =
       not-six (m .state .up) (hereRefusals m j) (finished (recover m)) refl (here-other j)
 
-pub welcomed : (n : ℕ) (f : Farm) → Reached n f → (j : ServerId) → j .0 < n → Welcome n f j
+pub welcomed : (n : ℕ) (f : Farm) → Reached step n f → (j : ServerId) → j .0 < n → Welcome n f j
 unfolding stepAt step
 welcomed n f x j low =
     record {

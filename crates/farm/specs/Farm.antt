@@ -2,10 +2,12 @@
 -- Assumes nothing.
 use Prim.Native.Nat.{ℕ}
 use mathlib.Core.Bool.{cond, Bool, true, _&&_}
-use mathlib.Core.List.{List, [], _∷_}
+use mathlib.Core.List.{List, [], _∷_, _++_}
 use mathlib.Core.Option.{Option, none, some}
+use mathlib.Core.Path.{_≡_}
 use lib.Dec.{eqb, ltb}
 use lib.ListN.{getD, getElem?, take}
+use Rattle.notes.specs.Lists.{every}
 use Rattle.notes.specs.Session.{newSession, readCarries, writeCarries, afterRead, afterWrite}
 use Rattle.notes.specs.declared.session.Session.{Session}
 use Rattle.notes.specs.declared.index.PhoneId.{PhoneId}
@@ -15,59 +17,69 @@ pub use Rattle.notes.specs.declared.index.ServerId.{ServerId}
 pub use Rattle.notes.specs.declared.record.Record.{Record}
 pub use Rattle.notes.specs.declared.vector.Vector.{Vector}
 use Rattle.rules.specs.Request.{newRecord}
+use Rattle.rules.specs.declared.event.Event.{Event}
 use Rattle.rules.specs.declared.event.Request.{Request}
 use Rattle.rules.specs.declared.event.Request.the-variants.{Read, Write}
-use Rattle.rules.specs.Memory.{Memory, writes}
+use Rattle.rules.specs.Memory.{Memory, withHistory, writes}
 use Rattle.rules.specs.Writes.{server}
 use Rattle.rules.specs.Calls.{start, message}
-use Rattle.rules.specs.Step.{step}
 use Rattle.rules.specs.declared.event.What.the-variants as what
-use Rattle.rules.specs.Answer.{Effect}
+pub use Rattle.rules.specs.Answer.{Effect}
 pub use Rattle.rules.specs.declared.event.What.{What}
+
+-- what a server does with an event, the vector that a request carries and the message that an update brings: `step` of the
+-- rules, on bytes. It is a parameter here, so that a wrong one can be held to the same statements
+abbrev pub Rule : Type 0
+Rule = Memory → Event → Vector → List ℕ → Effect
 
 -- ---- what is in flight stays there: it may be lost, late or repeated
 
--- a request, the vector that it carries, and what its phone's session had seen before asking
+-- a request, the vector that it carries, and the writes that its phone's session had seen before asking
 pub record Asked : Type 0 where
   pub phone : PhoneId
   pub request : Request
   pub vector : Vector
-  pub seen : List (List Record)
+  pub seen : List Record
 
--- the reply to a request that was served, and the server's history when it was
+-- the reply to a request that was served, and the writes that stood in the server's history as it was served, before and after
 pub record Replied : Type 0 where
   pub phone : PhoneId
   pub request : Request
   pub vector : Vector
   pub history : List Record
 
--- ---- phones, servers, messages
-
--- a session, and the histories that stood when the reads were served whose replies it has received
-pub record Phone : Type 0 where
-  pub session : Session
-  pub seen : List (List Record)
-
--- a request that a server began to perform, and its memory before
-pub record Begun : Type 0 where
-  pub asked : Asked
-  pub before : Memory
-
+-- requests, replies and updates, the last first
 pub record Sent : Type 0 where
   pub requests : List Asked
   pub replies : List Replied
   pub updates : List (List ℕ)
 
+-- ---- phones, servers
+
+-- a session, and the writes seen: those that stood in a server's history as it served a read whose reply the session has received
+pub record Phone : Type 0 where
+  pub session : Session
+  pub seen : List Record
+
+-- a request that a server began to perform, and its memory before
+pub record Attempt : Type 0 where
+  pub asked : Asked
+  pub before : Memory
+
 -- which requests each server has performed, and which it began: for what is stated of them only
-pub record Told : Type 0 where
-  pub performed : ℕ → List Begun
-  pub begun : ℕ → List Begun
+pub record Ledger : Type 0 where
+  pub performed : ℕ → List Attempt
+  pub begun : ℕ → List Attempt
 
 pub record Farm : Type 0 where
   pub servers : ℕ → Memory
   pub phones : ℕ → Phone
   pub sent : Sent
-  pub told : Told
+  pub ledger : Ledger
+
+-- the writes that a server has performed and that stand in its history
+abbrev pub performedBy : Farm → ServerId → List Record
+performedBy f j = writes (f .servers (j .0))
 
 -- a new session begins at zero
 abbrev pub installed : Phone
@@ -80,7 +92,7 @@ newFarm n histories images =
       servers = λ j. start n (server j) (histories j) (images j) .after;
       phones = λ i. installed;
       sent = record { requests = []; replies = []; updates = [] };
-      told = record { performed = λ j. []; begun = λ j. [] };
+      ledger = record { performed = λ j. []; begun = λ j. [] };
     }
 
 -- with another value at a number
@@ -89,13 +101,15 @@ changed f k a i = cond (eqb i k) a (f i)
 
 -- ---- what can happen
 
--- requests, replies and updates are named by their place among those in flight; stores is how many a cut leaves
+-- requests, replies and updates are named by their place among those in flight, the last has place 0; an act that names nothing,
+-- or that the server refuses, changes nothing. `stores` is how many a cut leaves. A cut loses what is in memory: a recovery is
+-- lent another history, of any bytes
 pub data Act : Type 0 where
   asks : (i : PhoneId) (q : Request) → Act
   serves : (request : ℕ) (j : ServerId) → Act
   cutServing : (request : ℕ) (j : ServerId) (stores : ℕ) → Act
   cuts : (j : ServerId) → Act
-  recovers : (j : ServerId) → Act
+  recovers : (j : ServerId) (history : List ℕ) → Act
   tells : (j : ServerId) (out : List ℕ) → Act
   takes : (update : ℕ) (j : ServerId) → Act
   hears : (reply : ℕ) → Act
@@ -119,71 +133,54 @@ asking f i q =
     record { phone = i; request = q; vector = carries (p .session) q; seen = p .seen }
 
 unfoldable pub hearing : Phone → Replied → Request → Phone
-hearing p r (Read cell) = record { session = afterRead (p .session) (r .vector); seen = r .history ∷ p .seen }
+hearing p r (Read cell) = record { session = afterRead (p .session) (r .vector); seen = r .history ++ p .seen }
 hearing p r (Write cell value time) = record { session = afterWrite (p .session) (r .vector); seen = p .seen }
 
 abbrev pub withPhone : Farm → PhoneId → Phone → Farm
-withPhone f i p = record { servers = f .servers; phones = changed (f .phones) (i .0) p; sent = f .sent; told = f .told }
+withPhone f i p = record { servers = f .servers; phones = changed (f .phones) (i .0) p; sent = f .sent; ledger = f .ledger }
 
 abbrev pub withSent : Farm → Sent → Farm
-withSent f s = record { servers = f .servers; phones = f .phones; sent = s; told = f .told }
+withSent f s = record { servers = f .servers; phones = f .phones; sent = s; ledger = f .ledger }
 
 abbrev pub withRequest : Farm → Asked → Farm
 withRequest f q =
     let s = f .sent in
     withSent f (record { requests = q ∷ s .requests; replies = s .replies; updates = s .updates })
 
--- ---- a server: each step is document 01's, on bytes
+-- ---- a server
 
 -- not refused
+abbrev pub Done : Effect → Type 0
+Done e = e .reply .number ≡ 0
+
 abbrev pub isDone : Reply → Bool
 isDone r = eqb (r .number) 0
 
 abbrev pub ifDone : {A : Type 0} → Reply → A → List A → List A
 ifDone r x l = cond (isDone r) (x ∷ l) l
 
-unfoldable pub stepAt : Farm → ServerId → What → Vector → List ℕ → Effect
-stepAt f j w v msg = step (f .servers (j .0)) (record { server = j; what = w }) v msg
-
 -- the server's memory is what the step leaves
-abbrev pub stepped : Farm → ServerId → Effect → Sent → Told → Farm
-stepped f j e s t = record { servers = changed (f .servers) (j .0) (e .after); phones = f .phones; sent = s; told = t }
+abbrev pub stepped : Farm → ServerId → Effect → Sent → Ledger → Farm
+stepped f j e s t = record { servers = changed (f .servers) (j .0) (e .after); phones = f .phones; sent = s; ledger = t }
 
 -- a step that is no request's
 abbrev pub plainly : Farm → ServerId → Effect → Farm
-plainly f j e = stepped f j e (f .sent) (f .told)
+plainly f j e = stepped f j e (f .sent) (f .ledger)
 
 -- one more at a number, unless refused
 abbrev pub also : {A : Type 0} → Reply → (ℕ → List A) → ServerId → A → ℕ → List A
 also r l j x = changed l (j .0) (ifDone r x (l (j .0)))
 
-abbrev pub beginning : Farm → ServerId → Asked → Begun
-beginning f j q = record { asked = q; before = f .servers (j .0) }
+abbrev pub attempt : Farm → ServerId → Asked → Attempt
+attempt f j q = record { asked = q; before = f .servers (j .0) }
 
 -- the record that document 01 gives a write's request in that memory
 unfoldable pub recordOf : Memory → PhoneId → Request → List Record
 recordOf m i (Read cell) = []
 recordOf m i (Write cell value time) = newRecord m i cell value time ∷ []
 
-abbrev pub begunRecord : Begun → List Record
-begunRecord b = recordOf (b .before) (b .asked .phone) (b .asked .request)
-
-unfoldable pub serving : Farm → ServerId → Asked → Farm
-serving f j q =
-    let e = stepAt f j (what.Request (q .phone) (q .request)) (q .vector) [] in
-    let r : Replied = record { phone = q .phone; request = q .request; vector = e .vector; history = writes (e .after) } in
-    let s = f .sent in
-    let t = f .told in
-    let b = beginning f j q in
-    stepped f j e
-    (record { requests = s .requests; replies = ifDone (e .reply) r (s .replies); updates = s .updates })
-    (record { performed = also (e .reply) (t .performed) j b; begun = also (e .reply) (t .begun) j b })
-
-unfoldable pub servingCut : Farm → ServerId → Asked → ℕ → Farm
-servingCut f j q k =
-    let e = stepAt f j (what.RequestCut (q .phone) (q .request) k) (q .vector) [] in
-    let t = f .told in
-    stepped f j e (f .sent) (record { performed = t .performed; begun = also (e .reply) (t .begun) j (beginning f j q) })
+abbrev pub attempted : Attempt → List Record
+attempted a = recordOf (a .before) (a .asked .phone) (a .asked .request)
 
 -- the bytes that the server's own-message call gives
 unfoldable pub telling : Farm → ServerId → List ℕ → Farm
@@ -199,18 +196,55 @@ abbrev pub inFlight : {A : Type 0} → Option A → Farm → (A → Farm) → Fa
 inFlight none f next = f
 inFlight (some a) f next = next a
 
-unfoldable pub act : Farm → Act → Farm
-act f (asks i q) = cond (askable q) (withRequest f (asking f i q)) f
-act f (serves k j) = inFlight (getElem? (f .sent .requests) k) f (λ q. serving f j q)
-act f (cutServing k j stores) = inFlight (getElem? (f .sent .requests) k) f (λ q. servingCut f j q stores)
-act f (cuts j) = plainly f j (stepAt f j what.Cut zeros [])
-act f (recovers j) = plainly f j (stepAt f j what.Recovery zeros [])
-act f (tells j out) = telling f j out
-act f (takes k j) = inFlight (getElem? (f .sent .updates) k) f (λ msg. plainly f j (stepAt f j what.Update zeros msg))
-act f (hears k) = inFlight (getElem? (f .sent .replies) k) f (λ r. withPhone f (r .phone) (hearing (f .phones (r .phone .0)) r (r .request)))
-act f (reinstalls i) = withPhone f i installed
+-- the bytes of a buffer
+unfoldable pub areBytes : List ℕ → Bool
+areBytes l = every (λ b. ltb b 256) l
 
--- a run
-unfoldable pub run : Farm → List Act → Farm
-run f [] = f
-run f (a ∷ acts) = run (act f a) acts
+module _ (rule : Rule) where
+  unfoldable pub stepAt : Farm → ServerId → What → Vector → List ℕ → Effect
+  stepAt f j w v msg = rule (f .servers (j .0)) (record { server = j; what = w }) v msg
+
+  abbrev pub serve : Farm → ServerId → Asked → Effect
+  serve f j q = stepAt f j (what.Request (q .phone) (q .request)) (q .vector) []
+
+  unfoldable pub serving : Farm → ServerId → Asked → Farm
+  serving f j q =
+      let e = serve f j q in
+      let r : Replied = record { phone = q .phone; request = q .request; vector = e .vector; history = performedBy f j ++ writes (e .after) } in
+      let s = f .sent in
+      let t = f .ledger in
+      let a = attempt f j q in
+      stepped f j e
+      (record { requests = s .requests; replies = ifDone (e .reply) r (s .replies); updates = s .updates })
+      (record { performed = also (e .reply) (t .performed) j a; begun = also (e .reply) (t .begun) j a })
+
+  unfoldable pub servingCut : Farm → ServerId → Asked → ℕ → Farm
+  servingCut f j q k =
+      let e = stepAt f j (what.RequestCut (q .phone) (q .request) k) (q .vector) [] in
+      let t = f .ledger in
+      stepped f j e (f .sent) (record { performed = t .performed; begun = also (e .reply) (t .begun) j (attempt f j q) })
+
+  -- lent a history of any bytes
+  unfoldable pub recover : Farm → ServerId → List ℕ → Effect
+  recover f j history = rule (withHistory history (f .servers (j .0))) (record { server = j; what = what.Recovery }) zeros []
+
+  unfoldable pub recovering : Farm → ServerId → List ℕ → Farm
+  recovering f j history =
+      let e = recover f j history in
+      cond (areBytes history && isDone (e .reply)) (plainly f j e) f
+
+  unfoldable pub act : Farm → Act → Farm
+  act f (asks i q) = cond (askable q) (withRequest f (asking f i q)) f
+  act f (serves k j) = inFlight (getElem? (f .sent .requests) k) f (λ q. serving f j q)
+  act f (cutServing k j stores) = inFlight (getElem? (f .sent .requests) k) f (λ q. servingCut f j q stores)
+  act f (cuts j) = plainly f j (stepAt f j what.Cut zeros [])
+  act f (recovers j history) = recovering f j history
+  act f (tells j out) = telling f j out
+  act f (takes k j) = inFlight (getElem? (f .sent .updates) k) f (λ msg. plainly f j (stepAt f j what.Update zeros msg))
+  act f (hears k) = inFlight (getElem? (f .sent .replies) k) f (λ r. withPhone f (r .phone) (hearing (f .phones (r .phone .0)) r (r .request)))
+  act f (reinstalls i) = withPhone f i installed
+
+  -- a run
+  unfoldable pub run : Farm → List Act → Farm
+  run f [] = f
+  run f (a ∷ acts) = run (act f a) acts

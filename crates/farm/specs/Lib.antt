@@ -1,3 +1,5 @@
 -- The files of definitions.
 pub mod Farm
 pub mod Demand
+pub mod Beside
+pub mod Wrong

@@ -43,14 +43,14 @@ use Rattle.laws.proofs.Places.{records-appended, records-front}
 use Rattle.laws.proofs.Stores.{fresh-shows, shows-server}
 use Rattle.laws.proofs.Sound.{Facts, took}
 use Rattle.laws.proofs.Open.{Up, opened, closed, closed-down}
-use Rattle.laws.proofs.Passed.{Asked, Brought, Plain, unless-keeps, plain, asked, asked-cut, brought-known}
+use Rattle.laws.proofs.Passed.{Granted, Brought, Plain, unless-keeps, plain, granted, granted-cut, brought-known}
 use Rattle.laws.proofs.Newest.{formed}
 use Rattle.laws.proofs.Reading.{noted-is, cp, read-left, read-cut}
 use Rattle.laws.proofs.Writing.{write-left, write-cut-so}
 
 -- ---- either
 module _ (m : Memory) (j : ServerId) (i : PhoneId) (v : Vector) where
-  pub served-sound : (q : Request) → Asked m j i q v → sound (served m i q .after) ≡ true
+  pub served-sound : (q : Request) → Granted m j i q v → sound (served m i q .after) ≡ true
   unfolding served plan ownPlan performed ready noted due written
   served-sound (Read cell) a =
       rw append-nil
@@ -62,7 +62,7 @@ module _ (m : Memory) (j : ServerId) (i : PhoneId) (v : Vector) where
       b = due m i (Read cell)
   served-sound (Write cell value time) a = write-left m j i cell value time v a
 
-  pub cut-sound : (q : Request) (k : ℕ) → Asked m j i q v → sound (cutAfter m i q k .after) ≡ true
+  pub cut-sound : (q : Request) (k : ℕ) → Granted m j i q v → sound (cutAfter m i q k .after) ≡ true
   unfolding cutAfter plan ownPlan due
   cut-sound (Read cell) k a = rw append-nil (read-cut m j i (Read cell) v a (due m i (Read cell)) k)
   cut-sound (Write cell value time) k a = write-cut-so m j i cell value time v a k
@@ -176,10 +176,10 @@ module _ (m : Memory) (e : Event) (v : Vector) (msg : List ℕ) (image : AllBelo
   unfolding request requestCut cut update recovery
   happens-sound j (what.Request i q) =
       unless-keeps Sound (first (requestRefusals m j i q v)) m (served m i q) ok
-      (λ r. served-sound m j i v q (asked m j i q v r))
+      (λ r. served-sound m j i v q (granted m j i q v r))
   happens-sound j (what.RequestCut i q k) =
       unless-keeps Sound (first (cutRefusals m j i q k v)) m (cutAfter m i q k) ok
-      (λ r. cut-sound m j i v q k (asked-cut m j i q v k r .0))
+      (λ r. cut-sound m j i v q k (granted-cut m j i q v k r .0))
   happens-sound j what.Cut =
       unless-keeps Sound (first (plainRefusals m (isDown m) j)) m (finished (withState (downOf (m .state)) m)) ok
       (λ r. plain-cut (plain m (isDown m) j r))

@@ -28,7 +28,7 @@ use Rattle.rules.specs.Request.{noted, cleared, due, ready, performed, served, 
 use Rattle.rules.specs.Step.{takenFrom, updated, updateRefusals, update, plainRefusals, cut, recovery, happens, step}
 use Rattle.rules.specs.Calls.{judge, fresh, noServer, startRefusal, start, status, found, lookUp, messageFilled, message}
 use Rattle.laws.proofs.Writes.{length-tally}
-use Rattle.laws.proofs.Passed.{Asked, asked, unless-either}
+use Rattle.laws.proofs.Passed.{Granted, granted, unless-either}
 use Rattle.laws.proofs.Newest.{eight}
 use Rattle.laws.proofs.Reading.{up, ready-is}
 use Rattle.laws.proofs.Unique.{effects-known, judged-known, status-known, filled-known}
@@ -37,7 +37,7 @@ use Rattle.laws.proofs.Unique.{effects-known, judged-known, status-know
 abbrev pub Eight : Effect → Type 0
 Eight e = length (e .vector .counts) ≡ servers
 
-served-eight : (m : Memory) (j : ServerId) (i : PhoneId) (q : Request) (v : Vector) → Asked m j i q v → Eight (served m i q)
+served-eight : (m : Memory) (j : ServerId) (i : PhoneId) (q : Request) (v : Vector) → Granted m j i q v → Eight (served m i q)
 unfolding served performed ready noted due written newRecord
 served-eight m j i (Read cell) v a =
     ap (λ (v : Vector). length (v .counts)) (ap (λ (t : State). t .vector) (ready-is m i (Read cell)) ∙ up m j i (Read cell) v a .facts .counts)
@@ -50,7 +50,7 @@ module _ (m : Memory) (v : Vector) (msg : List ℕ) where
   unfolding request requestCut cut update recovery cutAfter
   happens-eight j (what.Request i q) =
       unless-either Eight (first (requestRefusals m j i q v)) m (served m i q) (λ k. refl)
-      (λ r. served-eight m j i q v (asked m j i q v r))
+      (λ r. served-eight m j i q v (granted m j i q v r))
   happens-eight j (what.RequestCut i q k) =
       unless-either Eight (first (cutRefusals m j i q k v)) m (cutAfter m i q k) (λ k. refl) (λ r. refl)
   happens-eight j what.Cut =

@@ -25,14 +25,14 @@ use Rattle.rules.specs.Sound.{recover, sound}
 use Rattle.rules.specs.Answer.{Effect, refusalReply, replying, finished, isDown}
 use Rattle.rules.specs.Request.{valueOf, replyTo, served, cutAfter, requestRefusals, cutRefusals, request, requestCut}
 use Rattle.rules.specs.Step.{takenFrom, updated, updateRefusals, update, plainRefusals, cut, recovery, happens, step}
-use Rattle.laws.proofs.Passed.{Head, Asked, Brought, Plain, unless-either, asked, asked-cut, brought-known, plain}
+use Rattle.laws.proofs.Passed.{Head, Granted, Brought, Plain, unless-either, granted, granted-cut, brought-known, plain}
 use Rattle.laws.proofs.Reading.{after}
 use Rattle.laws.proofs.Writing as writing
 
 pub record Cases (m : Memory) (j : ServerId) (v : Vector) (msg : List ℕ) (P : Effect → Type 0) : Type 0 where
   pub refuses : (k : Refusal) → P (replying (refusalReply k) zeros m)
-  pub serves : (i : PhoneId) (q : Request) → Asked m j i q v → P (served m i q)
-  pub cutServing : (i : PhoneId) (q : Request) (k : ℕ) → Asked m j i q v → P (cutAfter m i q k)
+  pub serves : (i : PhoneId) (q : Request) → Granted m j i q v → P (served m i q)
+  pub cutServing : (i : PhoneId) (q : Request) (k : ℕ) → Granted m j i q v → P (cutAfter m i q k)
   pub cuts : Plain m (isDown m) j → P (finished (withState (downOf (m .state)) m))
   pub takes : Brought m j msg → P (finished (updated m (takenFrom m msg)))
   pub recovers : Plain m (m .state .up) j → P (finished (recover m))
@@ -47,10 +47,10 @@ step-cases m e v msg P c = go (e .what)
 
     go : (w : What) → P (happens m j w v msg)
     go (what.Request i q) =
-        unless-either P (first (requestRefusals m j i q v)) m (served m i q) (c .refuses) (λ r. c .serves i q (asked m j i q v r))
+        unless-either P (first (requestRefusals m j i q v)) m (served m i q) (c .refuses) (λ r. c .serves i q (granted m j i q v r))
     go (what.RequestCut i q k) =
         unless-either P (first (cutRefusals m j i q k v)) m (cutAfter m i q k) (c .refuses)
-        (λ r. c .cutServing i q k (asked-cut m j i q v k r .0))
+        (λ r. c .cutServing i q k (granted-cut m j i q v k r .0))
     go what.Cut =
         unless-either P (first (plainRefusals m (isDown m) j)) m (finished (withState (downOf (m .state)) m)) (c .refuses)
         (λ r. c .cuts (plain m (isDown m) j r))

@@ -90,7 +90,7 @@ module _ (m : Memory) (wrong : Bool) (rest : List (Option Refusal)) (e : first (
   head-rest = rows .3
 
 -- ---- a request
-pub record Asked (m : Memory) (j : ServerId) (i : PhoneId) (q : Request) (v : Vector) : Type 0 where
+pub record Granted (m : Memory) (j : ServerId) (i : PhoneId) (q : Request) (v : Vector) : Type 0 where
   pub head : Head m
   pub up : m .state .up ≡ true
   pub here : j .0 ≡ m .state .own .0
@@ -105,12 +105,12 @@ room-of : (w : Bool) (a b : ℕ) → (w && leb a b) ≡ false → w ≡ true →
 room-of true a b e q = leb-false a b e
 room-of false a b e q = absurd (true≢false (sym q))
 
-pub asked :
+pub granted :
     (m : Memory) (j : ServerId) (i : PhoneId) (q : Request) (v : Vector)
     → first (requestRefusals m j i q v) ≡ none
-    → Asked m j i q v
+    → Granted m j i q v
 unfolding requestRefusals
-asked m j i q v e =
+granted m j i q v e =
     let rows = askRefusals m j i q v in
     let a = ungiven (outOfRange m j i q v) OutOfRange (given (behind (m .state .vector) v) NotYet ∷ fullRefusals m q) (head-rest m (isDown m) rows e) in
     let b = ungiven (behind (m .state .vector) v) NotYet (fullRefusals m q) (a .1) in
@@ -144,18 +144,18 @@ pub admitted :
     → first (requestRefusals m j i q v) ≡ none
     → Admitted m i q
 admitted m j i q v e =
-    let a = asked m j i q v e in
+    let a = granted m j i q v e in
     record { head = a .head; up = a .up; phone = a .phone; room = a .room; logRoom = a .logRoom }
 
 -- cut: the count is at most the number of stores
-pub asked-cut :
+pub granted-cut :
     (m : Memory) (j : ServerId) (i : PhoneId) (q : Request) (v : Vector) (k : ℕ)
     → first (cutRefusals m j i q k v) ≡ none
-    → Asked m j i q v × (k ≤ length (plan m i q))
-asked-cut m j i q v k e =
+    → Granted m j i q v × (k ≤ length (plan m i q))
+granted-cut m j i q v k e =
     let x = none-append (requestRefusals m j i q v) (countRefusals m i q k) e in
     let y = ungiven (not (leb k (length (plan m i q)))) OutOfRange [] (x .1) in
-    (asked m j i q v (x .0), leb-true k (length (plan m i q)) (not-false _ (y .0)))
+    (granted m j i q v (x .0), leb-true k (length (plan m i q)) (not-false _ (y .0)))
 
 -- ---- an update
 

@@ -28,7 +28,7 @@ use Rattle.laws.proofs.Phones.{reads-cleared, reads-noted}
 use Rattle.laws.proofs.Stores.{Shows, shows-counts, length-checkpointPlan, checkpoint-cut, checkpoint-counted, checkpoint-all}
 use Rattle.laws.proofs.Sound.{Facts, kept-few, noted-facts, kept-all, log-empty}
 use Rattle.laws.proofs.Open.{Up, opened, closed, closed-down, own-low}
-use Rattle.laws.proofs.Passed.{Asked}
+use Rattle.laws.proofs.Passed.{Granted}
 
 -- a request noted changes CR and RW alone
 abbrev pub Renoted : State → State → Type 0
@@ -57,7 +57,7 @@ ready-is m i q = go (due m i q)
         let e = noted-is (m .state) i q in
         e ∙ ap (λ (k : ℕ). noting (t .cr) (t .rw) k (m .state)) (sym (ap (λ (x : State). x .nwrites) e))
 
-module _ (m : Memory) (j : ServerId) (i : PhoneId) (q : Request) (v : Vector) (a : Asked m j i q v) where
+module _ (m : Memory) (j : ServerId) (i : PhoneId) (q : Request) (v : Vector) (a : Granted m j i q v) where
   pub up : Up m
   up = opened m (a .head .image) (a .up) (a .head .sound)
 

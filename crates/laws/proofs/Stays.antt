@@ -24,7 +24,7 @@ use Rattle.rules.specs.Answer.{finished, isDown}
 use Rattle.rules.specs.Request.{newRecord, written, due, ownPlan, plan, performed, served, cutAfter, requestRefusals, cutRefusals, request, requestCut}
 use Rattle.rules.specs.Step.{takenFrom, updated, updateRefusals, update, plainRefusals, cut, recovery, happens, step}
 use Rattle.laws.proofs.Octets.{below-append, below-sets, below-zeros, below-encode, below-recordBytes, each-take, IsByte, below-stored, write-bytes, checkpoint-bytes}
-use Rattle.laws.proofs.Passed.{Asked, Brought, unless-keeps, asked, asked-cut, brought-known}
+use Rattle.laws.proofs.Passed.{Granted, Brought, unless-keeps, granted, granted-cut, brought-known}
 use Rattle.laws.proofs.Reading.{own}
 use Rattle.laws.proofs.Keeps.{each-append, new-fit, recoveredIn, recovered-fit}
 
@@ -34,18 +34,18 @@ pub record Bytes (m : Memory) : Type 0 where
 
 module _ (m : Memory) (b : Bytes m) (j : ServerId) (i : PhoneId) (v : Vector) where
   record-bytes :
-      (cell value time : ℕ) → Asked m j i (Write cell value time) v → AllBelow 256 (encode (newRecord m i cell value time))
+      (cell value time : ℕ) → Granted m j i (Write cell value time) v → AllBelow 256 (encode (newRecord m i cell value time))
   unfolding newRecord
   record-bytes cell value time a =
       below-encode (newRecord m i cell value time) (omega (arith, own m j i (Write cell value time) v a)) (omega (arith, a .phone))
 
-  own-bytes : (q : Request) → Asked m j i q v → Each IsByte (ownPlan m i q)
+  own-bytes : (q : Request) → Granted m j i q v → Each IsByte (ownPlan m i q)
   unfolding ownPlan
   own-bytes (Read cell) a = tt
   own-bytes (Write cell value time) a =
       write-bytes (newRecord m i cell value time) (logCount (m .image)) (record-bytes cell value time a)
 
-  plan-bytes : (q : Request) → Asked m j i q v → Each IsByte (plan m i q)
+  plan-bytes : (q : Request) → Granted m j i q v → Each IsByte (plan m i q)
   unfolding plan
   plan-bytes q a =
       each-append IsByte (cond (due m i q) (checkpointPlan (m .history) (m .state .held) (checkpointCount (m .image))) [])
@@ -57,7 +57,7 @@ module _ (m : Memory) (b : Bytes m) (j : ServerId) (i : PhoneId) (v : Vector) wh
       go true = checkpoint-bytes (m .history) (m .state .held) (checkpointCount (m .image)) (b .history)
       go false = tt
 
-  served-bytes : (q : Request) → Asked m j i q v → Bytes (served m i q .after)
+  served-bytes : (q : Request) → Granted m j i q v → Bytes (served m i q .after)
   unfolding served performed written
   served-bytes (Read cell) a =
       record { history = b .history; image = below-stored (plan m i (Read cell)) (m .image) (b .image) (plan-bytes (Read cell) a) }
@@ -67,7 +67,7 @@ module _ (m : Memory) (b : Bytes m) (j : ServerId) (i : PhoneId) (v : Vector) wh
         image = below-stored (plan m i (Write cell value time)) (m .image) (b .image) (plan-bytes (Write cell value time) a);
       }
 
-  cut-bytes : (q : Request) (k : ℕ) → Asked m j i q v → Bytes (cutAfter m i q k .after)
+  cut-bytes : (q : Request) (k : ℕ) → Granted m j i q v → Bytes (cutAfter m i q k .after)
   unfolding cutAfter
   cut-bytes q k a =
       record {
@@ -102,10 +102,10 @@ module _ (m : Memory) (b : Bytes m) (v : Vector) (msg : List ℕ) (bytes : AllBe
   unfolding request requestCut cut update recovery
   happens-bytes j (what.Request i q) =
       unless-keeps Bytes (first (requestRefusals m j i q v)) m (served m i q) b
-      (λ r. served-bytes m b j i v q (asked m j i q v r))
+      (λ r. served-bytes m b j i v q (granted m j i q v r))
   happens-bytes j (what.RequestCut i q k) =
       unless-keeps Bytes (first (cutRefusals m j i q k v)) m (cutAfter m i q k) b
-      (λ r. cut-bytes m b j i v q k (asked-cut m j i q v k r .0))
+      (λ r. cut-bytes m b j i v q k (granted-cut m j i q v k r .0))
   happens-bytes j what.Cut =
       unless-keeps Bytes (first (plainRefusals m (isDown m) j)) m (finished (withState (downOf (m .state)) m)) b
       (λ r. record { history = b .history; image = b .image })

@@ -26,11 +26,11 @@ use Rattle.laws.proofs.Places.{records-appended, records-one}
 use Rattle.laws.proofs.Stores.{Shows, length-writePlan, write-cut, write-all}
 use Rattle.laws.proofs.Sound.{Facts, wrote}
 use Rattle.laws.proofs.Open.{Up, closed, closed-down}
-use Rattle.laws.proofs.Passed.{Asked}
+use Rattle.laws.proofs.Passed.{Granted}
 use Rattle.laws.proofs.Newest.{encoded, like, number-like, next, formed}
 use Rattle.laws.proofs.Reading.{up, held, own}
 
-module _ (m : Memory) (j : ServerId) (i : PhoneId) (cell value time : ℕ) (v : Vector) (a : Asked m j i (Write cell value time) v) where
+module _ (m : Memory) (j : ServerId) (i : PhoneId) (cell value time : ℕ) (v : Vector) (a : Granted m j i (Write cell value time) v) where
   abbrev pub u : Up m
   u = up m j i (Write cell value time) v a
 
