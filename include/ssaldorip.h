@@ -93,7 +93,7 @@ uint32_t ssaldorip_version(void);
  */
 
 /* Starts server `own` of N = `n` anew: an up state, a zeroed history, an image whose two counts are zero. What the buffers
- * held before is free, and lost.
+ * held before is free, and lost. A refused start makes no server: the state's bytes stay what they were.
  * Refuses 9 (state, history, image), 1 (n is not 1 to 8, or own is not below n). */
 uint32_t ssaldorip_start(uint8_t n, uint8_t own,
                          uint8_t *state, size_t state_len,

@@ -16,13 +16,17 @@ declared() {
     grep -qE "(fn|const|struct|enum) $1\b" crates/*/src/*.rt crates/*/src/*/*.rt || ls crates/*/src/"$1".rt >/dev/null 2>&1
 }
 
-# A word of the crates' files, of a file's name, or a tool.
-mentioned() {
-    grep -rqwF -- "$1" crates rust/src include || find crates docs tests rust include -name "$1*" | grep -q . || command -v "$1" >/dev/null
+# A definition, theorem, field or constructor of any file; a function, type or variant; an exported function; a crate, a file, a tool.
+named() {
+    grep -rqE "^ *(abbrev |unfoldable )?(pub )?(record |data )?$1( |\$)" --include='*.antt' crates || declared "$1" ||
+        grep -rqE "^ *(pub )?$1[(,]" --include='*.rt' crates || grep -qwF -- "$1" include/ssaldorip.h ||
+        find crates docs tests rust include -name "$1*" | grep -q . || command -v "$1" >/dev/null
 }
 
 there() {
     case $1 in
+    requires | ensures) ;; # words of the language
+    io | libc) ;; # the kit's
     wrong:*)
         edit=${1#wrong:}
         [ -e "crates/${edit%/*}/wrong/${edit#*/}.edit" ] || [ -e "crates/${edit%/*}/must-fail/${edit#*/}.edit" ]
@@ -30,13 +34,13 @@ there() {
     *::*) declared "${1##*::}" ;;
     [A-Z]*.antt | */* | *.txt) [ -e "$1" ] || find crates -name "${1##*/}" | grep -q . ;;
     [A-Z]*.*) defined "${1%%.*}" "${1##*.}" ;;
-    *) mentioned "$1" ;;
+    *) named "$1" ;;
     esac
 }
 
 # What stands between backticks, and wrong programs by crate and name.
 grep -oE '`[A-Za-z][A-Za-z0-9_.:/-]*`' $page | tr -d '`' | sort -u >"$names"
-grep -oE '\b(notes|rules|farm|memory|calls|requests|server|text|ssaldorip)/[a-z][a-z0-9_]+' $page |
+grep -oE '\b(notes|rules|farm|refused|memory|calls|requests|server|text|ssaldorip)/[a-z][a-z0-9_]+' $page |
     grep -vE '/(specs|proofs|src|wrong)$' | sed 's|^|wrong:|' | sort -u >>"$names"
 
 passed=0

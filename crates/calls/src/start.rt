@@ -40,6 +40,8 @@ fn put_fresh(image: &mut [u8], n: u8, own: ServerId)
 }
 
 // A server that is up, with its history zeroed and its image fresh: 9 for a short history or image, then 1 for N or own number.
+// Where it is refused, `next` is the state of no server (N = 0, down), which is unsound with any image: whoever stores it is told
+// 6 by every later call that is lent long enough buffers.
 pub fn start(n: u8, own: ServerId, history: &mut [u8], image: &mut [u8]) -> Outcome
     ensures { λ r. ⌜ effectOf r (now (history .exit)) (now (image .exit)) ≡ startOf n own (now (history .entry)) (now (image .entry)) ⌝ }
 {

@@ -15,5 +15,4 @@ pub mod Beside
 pub mod Gaps
 pub mod Welcome
 pub mod Worked
-pub mod Excluded
 pub mod Limits

@@ -1,4 +1,4 @@
--- The limits, computed: 64 in the log is 5, 256 held is 4, and 7 comes before 4.
+-- The limits, computed: 64 in the log is 5, 256 held is 4, and 3 and 7 come before 4.
 -- Assumes nothing.
 use Prim.Native.Nat.{ℕ, zero, suc, _+_, _*_}
 use mathlib.Core.Bool.{true}
@@ -11,7 +11,7 @@ use Rattle.notes.specs.declared.record.Record.{Record}
 use Rattle.rules.specs.Writes.{server}
 use Rattle.rules.specs.Memory.{Memory, memory, noReads}
 use Rattle.rules.specs.Image.{historySize, headerOf}
-use Rattle.rules.proofs.Script.{turn, vec, note, write5, takeBytes, value, done, refusal, leaves, runs}
+use Rattle.rules.proofs.Script.{turn, vec, note, writeWith, write5, takeBytes, value, done, refusal, leaves, runs}
 use Rattle.rules.proofs.Computed.{computed}
 
 -- writes numbered from k on
@@ -38,12 +38,13 @@ pub full-log : T (runs (full 0 ∷ []) (turn (write5 0 7) (refusal 5) (leaves (6
 unfolding computed
 full-log = tt
 
--- 7 comes before 4 where an update would also take the history past 256
+-- 3 comes before 4 where the server is also behind, 7 where an update would also take the history past 256
 pub full-history :
     let left = leaves (64 ∷ 192 ∷ []) 0 64 [] 64 (mine 64 ++ theirs 1 192) in
     T
     (runs (full 192 ∷ [])
-    (turn (write5 0 7) (refusal 4) left
+    (turn (writeWith 0 7 (0 ∷ 193 ∷ [])) (refusal 3) left
+    ∷ turn (write5 0 7) (refusal 4) left
     ∷ turn (takeBytes 0 (messageOf 2 (server 1) (theirs 193 1 ++ theirs 195 1))) (refusal 7) left
     ∷ turn (takeBytes 0 (messageOf 2 (server 1) (theirs 193 1))) (refusal 4) left
     ∷ turn (takeBytes 0 (messageOf 2 (server 1) (theirs 192 1))) done left

@@ -3,7 +3,7 @@
 use Prim.Native.Nat.{ℕ, zero, suc, _≤_, _<_}
 use mathlib.Core.Bool.{Bool, true, false, cond, _&&_, false≢true}
 use mathlib.Core.List.{List, [], _∷_, _++_, append-nil, List·Memᴰ·not-nil}
-use mathlib.Core.Option.{Option, none, some}
+use mathlib.Core.Option.{none}
 use mathlib.Core.Path.{_≡_, refl, ap, sym, subst, _∙_}
 use native.Mathlib.Decide.{ℕ-discrete, decLt}
 use native.Mathlib.Omega.{arith}
@@ -19,7 +19,6 @@ use Rattle.notes.specs.declared.record.Record.{Record}
 use Rattle.notes.specs.declared.vector.Vector.{Vector}
 use Rattle.notes.proofs.Lists.{both}
 use Rattle.notes.proofs.Numbers.{AllBelow}
-use Rattle.rules.specs.declared.answer.Refusal.{Refusal}
 use Rattle.rules.specs.declared.event.What.{What}
 use Rattle.rules.specs.declared.event.What.the-variants as what
 use Rattle.rules.specs.Writes.{server, keep, writesOf, tally}
@@ -30,7 +29,7 @@ use Rattle.rules.specs.Step.{Taken, taken, takenFrom, updated, updateRefusals, 
 use Rattle.rules.specs.Sound as soundness
 use Rattle.laws.proofs.Passed.{Plain, brought-known, plain}
 use Rattle.laws.proofs.Writes.{writesOf-append}
-use Rattle.laws.proofs.Outcomes.{refusal-number, unsound-refused, refused-same}
+use Rattle.laws.proofs.Outcomes.{done-none, unsound-refused, refused-same}
 use Rattle.farm.specs.Farm.{Farm, areBytes, changed, isDone, Done, stepAt, plainly, recover, recovering}
 use Rattle.farm.specs.Demand.{_∈_}
 use Rattle.farm.proofs.Prefix.{Pre, each-mem, changed-same, changed-other}
@@ -39,11 +38,6 @@ use Rattle.farm.proofs.Known.{Genuine, flight-grows, listed-grows}
 use Rattle.farm.proofs.Taken.{taken-held, mine-stays}
 use Rattle.farm.proofs.Inv.{lists-run, Inv, Onward, still, next, grows, seats-next, deeds-next}
 use Rattle.farm.proofs.Steps.{step-sane, kept-same, kept-more, kept-cut, kept-update, kept-recover, keeps-down, kept-vector, servers-few}
-
--- ---- a call that is done was not refused
-pub done-none : (r : Option Refusal) (m : Memory) (e : Effect) → Done (unless r m e) → r ≡ none
-done-none none m e h = refl
-done-none (some r) m e h = absurd (refusal-number r h)
 
 -- ---- nothing changed
 pub changed-id : {A : Type 0} (f : ℕ → A) (k : ℕ) (a : A) → a ≡ f k → changed f k a ≡ f

@@ -29,7 +29,7 @@ use Rattle.laws.proofs.Passed.{Granted, granted, granted-cut}
 use Rattle.laws.proofs.Reading.{ready-is}
 use Rattle.laws.proofs.Writes.{length-tally, writesOf-here, writesOf-other}
 use Rattle.laws.proofs.Keeps.{each-append}
-use Rattle.laws.proofs.Outcomes.{refused-same}
+use Rattle.laws.proofs.Outcomes.{done-none, refused-same}
 use Rattle.farm.specs.Farm.{Asked, Attempt, Farm, performedBy, changed, askable, Done, attempt, recordOf, stepAt, serve, serving, servingCut}
 use Rattle.farm.specs.Demand.{_∈_}
 use Rattle.farm.specs.Beside.{Begun}
@@ -39,7 +39,7 @@ use Rattle.farm.proofs.Known.{Covers, Fair, flight-grows, listed-grows,
 use Rattle.farm.proofs.Steps.{keeps-up, kept-more, kept-read, kept-write, kept-cut-read, kept-cut-write, kept-vector, servers-few}
 use Rattle.farm.proofs.Taken.{held-covered}
 use Rattle.farm.proofs.Inv.{Seats, Inv, Onward, lists-run, next, own, grows, seats-next, deeds-next}
-use Rattle.farm.proofs.Moves.{done-none, changed-id, step-or-not, below-none, at-server, before-sane, after-sane, only-own}
+use Rattle.farm.proofs.Moves.{changed-id, step-or-not, below-none, at-server, before-sane, after-sane, only-own}
 
 -- ---- the record that a request gives is the server's own
 own-record : (m : Memory) (j : ServerId) → m .state .own ≡ j → (i : PhoneId) (q : Request) → writesOf j (recordOf m i q) ≡ recordOf m i q

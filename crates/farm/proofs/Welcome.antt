@@ -1,32 +1,23 @@
 -- No server of a farm is told 6, but of its own message, and no message in flight is told 7 or 8.
 -- Assumes nothing.
 use Prim.Native.Nat.{ℕ, _+_, _<_}
-use mathlib.Core.Bool.{Bool, true, false, cond, not, true≢false}
-use mathlib.Core.List.{List, [], _∷_, _++_}
-use mathlib.Core.Option.{Option, none, some}
+use mathlib.Core.Bool.{Bool, true, false, cond, not}
+use mathlib.Core.List.{List}
+use mathlib.Core.Option.{none}
 use mathlib.Core.Path.{_≡_, refl, ap, sym, _∙_}
 use native.Mathlib.Omega.{arith}
 use borrow.Author.Tests.{eqb-true, eq-eqb}
 use lib.Dec.{eqb, leb}
 use lib.ListN.{length}
-use Rattle.notes.specs.Reply.{given, first}
 use Rattle.notes.specs.Message.{historyMost, brought, messageN, messageSender}
-use Rattle.notes.specs.Vector.{zeros, behind}
-use Rattle.notes.specs.declared.index.PhoneId.{PhoneId}
+use Rattle.notes.specs.Vector.{zeros}
 use Rattle.notes.specs.declared.index.ServerId.{ServerId}
 use Rattle.notes.specs.declared.vector.Vector.{Vector}
-use Rattle.notes.proofs.Pieces.{Each}
-use Rattle.rules.specs.declared.answer.Refusal.{Refusal}
-use Rattle.rules.specs.declared.answer.Refusal.the-variants.{OutOfRange, NotUp, NotYet, HistoryFull, LogFull, Unsound, TooShort}
-use Rattle.rules.specs.declared.event.Request.{Request}
-use Rattle.rules.specs.declared.event.What.{What}
 use Rattle.rules.specs.declared.event.What.the-variants as what
-use Rattle.rules.specs.Memory.{Memory, withState, downOf}
-use Rattle.rules.specs.Answer.{Effect, refusalNumber, finished, unless, short, head, isDown, elsewhere, hereRefusals}
-use Rattle.rules.specs.Sound.{recover, sound}
-use Rattle.rules.specs.Request.{plan, served, cutAfter, outOfRange, fullHistory, fullLog, askRefusals, requestRefusals, countRefusals, request, requestCut}
-use Rattle.rules.specs.Step.{taken, takenFrom, suitable, updateRefusals, update, plainRefusals, cut, recovery, happens, step}
-use Rattle.laws.proofs.Outcomes.{served-number}
+use Rattle.rules.specs.Memory.{Memory}
+use Rattle.rules.specs.Answer.{Effect, unless}
+use Rattle.rules.specs.Step.{taken, takenFrom, suitable, updateRefusals, update, step}
+use Rattle.laws.proofs.Sentences.{six-update}
 use Rattle.farm.specs.Farm.{Farm, stepAt}
 use Rattle.farm.specs.Demand.{_∈_, Reached}
 use Rattle.farm.specs.Beside.{Welcome}
@@ -92,66 +83,11 @@ module _ (n : ℕ) (f : Farm) (x : Reached step n f) (j : ServerId) (low : j .0 
       go true false false p q k = let a = answered true false false p q k in (λ h. omega (arith, a, h), λ h. omega (arith, a, h), λ h. absurd (omega (arith, a, h)))
       go false o r p q k = let a = answered false o r p q k in (λ h. omega (arith, a, h), λ h. omega (arith, a, h), λ h. absurd (omega (arith, a, h)))
 
--- ---- 6 is for unsound memories and unfit messages
-abbrev isSix : Option Refusal → Bool
-isSix none = false
-isSix (some r) = eqb (refusalNumber r) 6
-
-row-other : (b : Bool) (r : Refusal) → isSix (some r) ≡ false → isSix (given b r) ≡ false
-row-other true r e = e
-row-other false r e = refl
-
-rows-other : (l : List (Option Refusal)) → Each (λ r. isSix r ≡ false) l → isSix (first l) ≡ false
-rows-other [] h = refl
-rows-other (none ∷ l) h = rows-other l (h .1)
-rows-other (some r ∷ l) h = h .0
-
-six-row : (r : Option Refusal) (m : Memory) (e : Effect) → e .reply .number ≡ 0 → unless r m e .reply .number ≡ 6 → isSix r ≡ true
-six-row none m e z h = absurd (omega arith)
-six-row (some r) m e z h = eq-eqb (refusalNumber r) 6 h
-
-module _ (m : Memory) (ok : sound m ≡ true) where
-  sound-row : isSix (given (not (sound m)) Unsound) ≡ false
-  sound-row = rw ok
-
-  -- rows that begin with the head and have no 6 behind it
-  not-six : (wrong : Bool) (rest : List (Option Refusal)) (e : Effect) → e .reply .number ≡ 0 → Each (λ r. isSix r ≡ false) rest → unless (first (head m wrong ++ rest)) m e .reply .number ≡ 6 → ⊥
-  not-six wrong rest e z h six =
-      true≢false
-      (sym (six-row (first (head m wrong ++ rest)) m e z six)
-      ∙ rows-other (head m wrong ++ rest) (row-other (short m) TooShort refl, (sound-row, (row-other wrong NotUp refl, h))))
-
-  -- the rows of a request behind the head
-  request-other : (j : ServerId) (i : PhoneId) (q : Request) (v : Vector) (last : List (Option Refusal)) → Each (λ r. isSix r ≡ false) last → Each (λ r. isSix r ≡ false) (askRefusals m j i q v ++ last)
-  request-other j i q v last h = (
-    row-other (outOfRange m j i q v) OutOfRange refl,
-    (
-      row-other (behind (m .state .vector) v) NotYet refl,
-      (row-other (fullHistory m q) HistoryFull refl, (row-other (fullLog m q) LogFull refl, h)),
-    ),
-  )
-
-  here-other : (j : ServerId) → Each (λ r. isSix r ≡ false) (hereRefusals m j)
-  here-other j = (row-other (elsewhere m j) OutOfRange refl, tt)
-
-  pub never-six : (j : ServerId) (w : What) (v : Vector) (msg : List ℕ) → (w ≡ what.Update → ⊥) → happens m j w v msg .reply .number ≡ 6 → ⊥
-  unfolding request requestCut cut recovery requestRefusals plainRefusals cutAfter
-  never-six j (what.Request i q) v msg other =
-      not-six (isDown m) (askRefusals m j i q v) (served m i q) (served-number m i q) (request-other j i q v [] tt)
-  never-six j (what.RequestCut i q k) v msg other =
-      not-six (isDown m) (askRefusals m j i q v ++ countRefusals m i q k) (cutAfter m i q k) refl
-      (request-other j i q v (countRefusals m i q k) (row-other (not (leb k (length (plan m i q)))) OutOfRange refl, tt))
-  never-six j what.Cut v msg other =
-      not-six (isDown m) (hereRefusals m j) (finished (withState (downOf (m .state)) m)) refl (here-other j)
-  never-six j what.Update v msg other = absurd (other refl)
-  never-six j what.Recovery v msg other =
-      not-six (m .state .up) (hereRefusals m j) (finished (recover m)) refl (here-other j)
-
 pub welcomed : (n : ℕ) (f : Farm) → Reached step n f → (j : ServerId) → j .0 < n → Welcome n f j
 unfolding stepAt step
 welcomed n f x j low =
     record {
-      notSix = λ w v msg. never-six (f .servers (j .0)) (all-sound n f x j low) j w v msg;
+      notSix = λ w v msg other six. other (six-update (f .servers (j .0)) (all-sound n f x j low) (record { server = j; what = w }) v msg six .0);
       sixItsOwn = λ msg y. welcome n f x j low msg y .2;
       notSeven = λ msg y. welcome n f x j low msg y .0;
       notEight = λ msg y. welcome n f x j low msg y .1;

@@ -17,7 +17,6 @@ pub use Rattle.notes.specs.declared.index.ServerId.{ServerId}
 pub use Rattle.notes.specs.declared.record.Record.{Record}
 pub use Rattle.notes.specs.declared.vector.Vector.{Vector}
 use Rattle.rules.specs.Request.{newRecord}
-use Rattle.rules.specs.declared.event.Event.{Event}
 use Rattle.rules.specs.declared.event.Request.{Request}
 use Rattle.rules.specs.declared.event.Request.the-variants.{Read, Write}
 use Rattle.rules.specs.Memory.{Memory, withHistory, writes}
@@ -25,12 +24,8 @@ use Rattle.rules.specs.Writes.{server}
 use Rattle.rules.specs.Calls.{start, message}
 use Rattle.rules.specs.declared.event.What.the-variants as what
 pub use Rattle.rules.specs.Answer.{Effect}
+pub use Rattle.rules.specs.Step.{Rule}
 pub use Rattle.rules.specs.declared.event.What.{What}
-
--- what a server does with an event, the vector that a request carries and the message that an update brings: `step` of the
--- rules, on bytes. It is a parameter here, so that a wrong one can be held to the same statements
-abbrev pub Rule : Type 0
-Rule = Memory → Event → Vector → List ℕ → Effect
 
 -- ---- what is in flight stays there: it may be lost, late or repeated
 
@@ -200,6 +195,7 @@ inFlight (some a) f next = next a
 unfoldable pub areBytes : List ℕ → Bool
 areBytes l = every (λ b. ltb b 256) l
 
+-- ---- what its servers do is a parameter: `step` of the rules, on bytes, or a wrong rule that is held to the same statements
 module _ (rule : Rule) where
   unfoldable pub stepAt : Farm → ServerId → What → Vector → List ℕ → Effect
   stepAt f j w v msg = rule (f .servers (j .0)) (record { server = j; what = w }) v msg

@@ -2,4 +2,3 @@
 pub mod Farm
 pub mod Demand
 pub mod Beside
-pub mod Wrong

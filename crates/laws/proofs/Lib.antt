@@ -5,6 +5,7 @@ pub mod Stamps
 pub mod Phones
 pub mod Winner
 pub mod Status
+pub mod LookUp
 pub mod Places
 pub mod Octets
 pub mod Stores
@@ -17,5 +18,6 @@ pub mod Writing
 pub mod Keeps
 pub mod Stays
 pub mod Outcomes
+pub mod Sentences
 pub mod Unique
 pub mod One

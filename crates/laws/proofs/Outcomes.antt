@@ -2,7 +2,7 @@
 -- Assumes nothing.
 use Prim.Native.Nat.{ℕ}
 use mathlib.Core.Bool.{false, true≢false}
-use mathlib.Core.List.{List, [], _∷_, _++_}
+use mathlib.Core.List.{List}
 use mathlib.Core.Option.{Option, none, some}
 use mathlib.Core.Path.{_≡_, refl, sym, _∙_}
 use native.Mathlib.Omega.{arith}
@@ -22,12 +22,10 @@ use Rattle.rules.specs.declared.event.What.the-variants as what
 use Rattle.rules.specs.Writes.{winner}
 use Rattle.rules.specs.Memory.{Memory, withState, downOf, writes}
 use Rattle.rules.specs.Sound.{recover, sound}
-use Rattle.rules.specs.Answer.{Effect, refusalReply, replying, finished, isDown}
+use Rattle.rules.specs.Answer.{Effect, refusalReply, replying, finished, unless, isDown}
 use Rattle.rules.specs.Request.{valueOf, replyTo, served, cutAfter, requestRefusals, cutRefusals, request, requestCut}
 use Rattle.rules.specs.Step.{takenFrom, updated, updateRefusals, update, plainRefusals, cut, recovery, happens, step}
 use Rattle.laws.proofs.Passed.{Head, Granted, Brought, Plain, unless-either, granted, granted-cut, brought-known, plain}
-use Rattle.laws.proofs.Reading.{after}
-use Rattle.laws.proofs.Writing as writing
 
 pub record Cases (m : Memory) (j : ServerId) (v : Vector) (msg : List ℕ) (P : Effect → Type 0) : Type 0 where
   pub refuses : (k : Refusal) → P (replying (refusalReply k) zeros m)
@@ -72,6 +70,11 @@ refusal-number Unsound e = omega arith
 refusal-number Gap e = omega arith
 refusal-number OwnAhead e = omega arith
 refusal-number TooShort e = omega arith
+
+-- a call that is done was not refused
+pub done-none : (r : Option Refusal) (m : Memory) (e : Effect) → unless r m e .reply .number ≡ 0 → r ≡ none
+done-none none m e h = refl
+done-none (some r) m e h = absurd (refusal-number r h)
 
 reply-number : (q : Request) (m : Memory) → replyTo q m .number ≡ 0
 unfolding replyTo

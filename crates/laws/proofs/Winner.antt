@@ -2,9 +2,9 @@
 -- Assumes nothing.
 use Prim.Native.Nat.{ℕ, _≤_}
 use mathlib.Core.Bool.{Bool, true, false, _&&_, not, cond}
-use mathlib.Core.List.{List, [], _∷_, List·Memᴰ, List·Memᴰ·head, List·Memᴰ·tail, List·Memᴰ·not-nil}
-use mathlib.Core.Option.{none, some, Option·some-injective, Option·none-ne-some}
-use mathlib.Core.Path.{_≡_, refl, sym, subst⁻¹}
+use mathlib.Core.List.{List, [], _∷_, map, List·Memᴰ, List·Memᴰ·head, List·Memᴰ·tail, List·Memᴰ·not-nil}
+use mathlib.Core.Option.{Option, none, some, Option·map, Option·some-injective, Option·none-ne-some}
+use mathlib.Core.Path.{_≡_, refl, ap, sym, subst⁻¹, _∙_}
 use native.Mathlib.Omega.{arith}
 use borrow.Author.Tests.{ltb-true, ltb-false, le-ltb, eqb-true, eqb-false, eq-eqb}
 use lib.Dec.{ltb, eqb}
@@ -12,7 +12,9 @@ use Rattle.notes.specs.Lists.{every, above}
 use Rattle.notes.specs.Record.{beats, rank}
 use Rattle.notes.specs.declared.record.Record.{Record}
 use Rattle.notes.proofs.Lists.{above-differs, above-same, neither}
-use Rattle.rules.specs.Writes.{keepIf, keep, best, winner}
+use Rattle.notes.specs.declared.vector.Vector.{Vector}
+use Rattle.rules.specs.Request.{valueOf}
+use Rattle.rules.specs.Writes.{keepIf, keep, better, best, winner}
 use Rattle.laws.proofs.Lists.{keep-none}
 
 -- ---- lists of numbers in order
@@ -221,3 +223,53 @@ module _ (c : ℕ) (rs : List Record) where
       let b = best-of (keep here rs) w e in
       let k = kept-in here rs w (b .among) in
       (k .0, eqb-true (w .cell) c (k .1), λ r m q. b .unbeaten r (in-kept here rs r m (eq-eqb (r .cell) c q)))
+
+-- ---- phone times take no part
+
+-- histories that differ in phone times only have one winner but for its time, and so one reply
+abbrev pub timeless : Record → Record
+timeless r = timed r 0
+
+better-timeless : (w : Option Record) (r : Record) → better (Option·map timeless w) (timeless r) ≡ Option·map timeless (better w r)
+better-timeless none r = refl
+better-timeless (some w) r = rw (time-free r w 0 0) (go (beats r w))
+  where
+    go : (t : Bool) → some (cond t (timeless r) (timeless w)) ≡ some (timeless (cond t r w))
+    go true = refl
+    go false = refl
+
+best-timeless : (w : Option Record) (rs : List Record) → best (Option·map timeless w) (map timeless rs) ≡ Option·map timeless (best w rs)
+unfolding best
+best-timeless w [] = refl
+best-timeless w (r ∷ rs) = ap (λ x. best x (map timeless rs)) (better-timeless w r) ∙ best-timeless (better w r) rs
+
+keep-timeless : (c : ℕ) (rs : List Record) → keep (λ r. eqb (r .cell) c) (map timeless rs) ≡ map timeless (keep (λ r. eqb (r .cell) c) rs)
+unfolding keep
+keep-timeless c [] = refl
+keep-timeless c (r ∷ rs) = go (eqb (r .cell) c) (keep-timeless c rs)
+  where
+    here : Record → Bool
+    here r = eqb (r .cell) c
+
+    go : (t : Bool) → keep here (map timeless rs) ≡ map timeless (keep here rs) → keepIf t (timeless r) (keep here (map timeless rs)) ≡ map timeless (keepIf t r (keep here rs))
+    go true e = ap (λ l. timeless r ∷ l) e
+    go false e = e
+
+winner-timeless : (c : ℕ) (rs : List Record) → winner c (map timeless rs) ≡ Option·map timeless (winner c rs)
+unfolding winner
+winner-timeless c rs = ap (best none) (keep-timeless c rs) ∙ best-timeless none (keep (λ r. eqb (r .cell) c) rs)
+
+pub winner-time-free :
+    (c : ℕ) (rs ss : List Record)
+    → map timeless rs ≡ map timeless ss
+    → Option·map timeless (winner c rs) ≡ Option·map timeless (winner c ss)
+winner-time-free c rs ss e = sym (winner-timeless c rs) ∙ ap (winner c) e ∙ winner-timeless c ss
+
+value-timeless : (w : Option Record) (v : Vector) → valueOf (Option·map timeless w) v ≡ valueOf w v
+value-timeless none v = refl
+value-timeless (some r) v = refl
+
+pub reply-time-free :
+    (c : ℕ) (rs ss : List Record) (v : Vector) → map timeless rs ≡ map timeless ss → valueOf (winner c rs) v ≡ valueOf (winner c ss) v
+reply-time-free c rs ss v e =
+    sym (value-timeless (winner c rs) v) ∙ ap (λ w. valueOf w v) (winner-time-free c rs ss e) ∙ value-timeless (winner c ss) v

@@ -51,6 +51,23 @@ use Rattle.notes.proofs.session.Session.raise as raise
 use Rattle.notes.proofs.session.Session.keep as keep
 use Rattle.notes.proofs.session.Session.carried as carried
 use Rattle.notes.proofs.session.raised_by.Reads as raised-by
+use Rattle.notes.proofs.number.raw.u16_at.Reads as raw-u16-at
+use Rattle.notes.proofs.number.raw.u32_at.Reads as raw-u32-at
+use Rattle.notes.proofs.number.raw.u64_at.Reads as raw-u64-at
+use Rattle.notes.proofs.number.raw.counts_at.Reads as raw-counts-at
+use Rattle.notes.proofs.number.raw.put_u8.Reads as raw-put-u8
+use Rattle.notes.proofs.number.raw.put_u16.Reads as raw-put-u16
+use Rattle.notes.proofs.number.raw.put_u32.Reads as raw-put-u32
+use Rattle.notes.proofs.number.raw.put_u64.Reads as raw-put-u64
+use Rattle.notes.proofs.number.raw.put_counts.Reads as raw-put-counts
+use Rattle.notes.proofs.record.raw.decoded.Reads as raw-decoded
+use Rattle.notes.proofs.record.raw.limits.Reads as raw-limits
+use Rattle.notes.proofs.record.raw.number_of.Reads as raw-number-of
+use Rattle.notes.proofs.record.raw.well_formed.Reads as raw-well-formed
+use Rattle.notes.proofs.record.raw.all_well_formed.Reads as raw-all-well-formed
+use Rattle.notes.proofs.vector.raw.vector_at.Reads as raw-vector-at
+use Rattle.notes.proofs.vector.raw.put_vector.Reads as raw-put-vector
+use Rattle.notes.proofs.message.raw.put_message.Reads as raw-put-message
 
 -- for the same lifetimes and arguments, `seen` of the result and of the parameters at exit is one
 abbrev pub One {ℓ κ μ ν} :
@@ -213,3 +230,56 @@ keep-one k a x y s t p q = equal p q
 
 pub carried-one : One (λ k a r s. AllOf (carried-reads k a r s .owes)) (λ k r s. r)
 carried-one k a x y s t p q = equal p q
+
+-- ---- the raw ones: what they ask is that places are there
+
+pub raw-u16-at-one : One raw-u16-at.Post (λ k r s. r)
+raw-u16-at-one k a x y s t p q = equal p q
+
+pub raw-u32-at-one : One raw-u32-at.Post (λ k r s. r)
+raw-u32-at-one k a x y s t p q = equal p q
+
+pub raw-u64-at-one : One raw-u64-at.Post (λ k r s. r)
+raw-u64-at-one k a x y s t p q = equal p q
+
+pub raw-counts-at-one : One raw-counts-at.Post (λ k r s. now (s .1 .1 .0))
+raw-counts-at-one k a x y s t p q = equal p q
+
+pub raw-put-u8-one : One raw-put-u8.Post (λ k r s. now (s .0))
+raw-put-u8-one k a x y s t p q = equal p q
+
+pub raw-put-u16-one : One raw-put-u16.Post (λ k r s. now (s .0))
+raw-put-u16-one k a x y s t p q = equal p q
+
+pub raw-put-u32-one : One raw-put-u32.Post (λ k r s. now (s .0))
+raw-put-u32-one k a x y s t p q = equal p q
+
+pub raw-put-u64-one : One raw-put-u64.Post (λ k r s. now (s .0))
+raw-put-u64-one k a x y s t p q = equal p q
+
+pub raw-put-counts-one : One raw-put-counts.Post (λ k r s. now (s .0))
+raw-put-counts-one k a x y s t p q = equal p q
+
+pub raw-decoded-one : One raw-decoded.Post (λ k r s. r)
+raw-decoded-one k a x y s t p q = equal p q
+
+pub raw-limits-one : One raw-limits.Post (λ k r s. r)
+raw-limits-one k a x y s t p q = equal p q
+
+pub raw-number-of-one : One raw-number-of.Post (λ k r s. r)
+raw-number-of-one k a x y s t p q = equal p q
+
+pub raw-well-formed-one : One raw-well-formed.Post (λ k r s. r)
+raw-well-formed-one k a x y s t p q = equal p q
+
+pub raw-all-well-formed-one : One raw-all-well-formed.Post (λ k r s. r)
+raw-all-well-formed-one k a x y s t p q = equal p q
+
+pub raw-vector-at-one : One raw-vector-at.Post (λ k r s. r)
+raw-vector-at-one k a x y s t p q = equal p q
+
+pub raw-put-vector-one : One raw-put-vector.Post (λ k r s. now (s .0))
+raw-put-vector-one k a x y s t p q = equal p q
+
+pub raw-put-message-one : One raw-put-message.Post (λ k r s. now (s .0))
+raw-put-message-one k a x y s t p q = equal p q

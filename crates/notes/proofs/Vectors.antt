@@ -1,7 +1,7 @@
 -- Laws of vectors: each over every position and every N.
 -- Assumes nothing.
 use Prim.Native.Nat.{ℕ, zero, suc, _+_, _-_, _*_, _<_, _≤_, max}
-use mathlib.Core.Bool.{Bool, true, false, _&&_, _||_, not, cond, and-assoc, and-false, or-true}
+use mathlib.Core.Bool.{Bool, true, false, _&&_, _||_, not, cond, and-assoc, and-false, or-true, false≢true}
 use mathlib.Core.List.{List, [], _∷_, _++_, map, zipWith, flatMap, foldr, append-nil}
 use mathlib.Core.Path.{_≡_, refl, ap, sym, _∙_}
 use native.Mathlib.Omega.{arith}
@@ -174,6 +174,25 @@ some-below [] (y ∷ w) i l h = absurd (omega arith)
 some-below (x ∷ v) [] i l h = absurd (omega arith)
 some-below (x ∷ v) (y ∷ w) zero l h = rw (lt-ltb x y h)
 some-below (x ∷ v) (y ∷ w) (suc i) l h = rw (some-below v w i (omega arith) h, or-true)
+
+below-some : (v w : List ℕ) → any (λ below. below) (zipWith ltb v w) ≡ true → (i : ℕ) × (getD v i 0 < getD w i 0)
+unfolding any zipWith
+below-some [] w e = absurd (false≢true e)
+below-some (x ∷ v) [] e = absurd (false≢true e)
+below-some (x ∷ v) (y ∷ w) e = go (ltb x y) refl (below-some v w) e
+  where
+    go :
+        (t : Bool)
+        → ltb x y ≡ t
+        → (any (λ below. below) (zipWith ltb v w) ≡ true → (i : ℕ) × (getD v i 0 < getD w i 0))
+        → (t || any (λ below. below) (zipWith ltb v w)) ≡ true
+        → (i : ℕ) × (getD (x ∷ v) i 0 < getD (y ∷ w) i 0)
+    go true q rest e = (0, ltb-true x y q)
+    go false q rest e = let r = rest e in (suc (r .0), r .1)
+
+pub behind-some : (v w : Vector) → behind v w ≡ true → (s : ServerId) × (at v s < at w s)
+unfolding behind
+behind-some v w e = let r = below-some (v .counts) (w .counts) e in (record { 0 = r .0 }, r .1)
 
 module _ (v w : Vector) (l : length (v .counts) ≡ length (w .counts)) where
   pub behind-false : behind v w ≡ false → (s : ServerId) → at w s ≤ at v s

@@ -81,7 +81,9 @@ pub fn left_from(m: &[u8], at: usize) -> usize
     (m.len() - at) / Record::LEN
 }
 
-// The message and the place of the next record.
+// The message and the place of the next record. A reader of a right message is made by `new`. One that is put together by hand,
+// of bytes that no one checked or at any place, is read by the same rule: while 28 bytes are left from its place on, these are
+// the record, well formed or not.
 pub struct Reader<'a> {
     pub message: &'a [u8],
     pub at: usize,

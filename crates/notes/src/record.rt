@@ -88,7 +88,8 @@ impl Record {
         self.cell < Self::CELLS
     }
 
-    // Well formed for n servers. The phone time is free.
+    // Well formed for n servers. The phone time is free. For n = 0 no record is, since no origin is below it; for n above 8 a
+    // record is exactly if it is for 8: at an origin past the eight positions the number is 0, and no position is past n.
     pub fn well_formed(self, n: u8) -> bool
         ensures { λ r. ⌜ r ≡ wellFormed n self ⌝ }
     {

@@ -46,7 +46,8 @@ impl Session {
     pub fn after_write(self, reply: Vector) -> Session
         ensures { λ r. ⌜ r ≡ afterWrite self reply ⌝ }
     {
-        self
+        let reads = self.reads;
+        Session { reads }
     }
 
     // A read's reply raises the session in place.

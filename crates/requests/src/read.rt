@@ -44,7 +44,7 @@ fn due(s: State, phone: PhoneId) -> bool
     ensures { λ r. ⌜ ((cell : ℕ) → r ≡ dueOf (memory s [] []) phone (Read cell)) ⌝ }
 {
     let rw = s.rw;
-    is_in(s.cr, phone) & (0 < rw.counts[phone.0 as usize])
+    is_in(s.cr, phone) & (0 < rw.at(phone))
 }
 
 fn noted(s: State, phone: PhoneId) -> State
@@ -54,11 +54,10 @@ fn noted(s: State, phone: PhoneId) -> State
     if is_in(s.cr, phone) {
         return s;
     }
-    let mut rw = s.rw;
-    rw.counts[phone.0 as usize] = s.nwrites;
+    let rw = s.rw;
     let mut t = s;
     t.cr = with_phone(s.cr, phone);
-    t.rw = rw;
+    t.rw = rw.with(phone, s.nwrites);
     t
 }
 

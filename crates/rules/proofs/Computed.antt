@@ -16,8 +16,8 @@ use Rattle.rules.specs.Sound.{later, recovered, raisedBy, recoveredVecto
 use Rattle.rules.specs.Request.{newVector, newRecord, written, noted, cleared, due, ownPlan, plan, ready, performed, replyTo, served, cutAfter, requestRefusals, request, requestCut}
 use Rattle.rules.specs.Step.{atTurn, taken, updated, updateRefusals, update, plainRefusals, cut, recovery, step}
 use Rattle.rules.specs.Calls.{fresh, ownMessage}
-use Rattle.rules.proofs.Script.{Script, runs, holds}
+use Rattle.rules.proofs.Script.{Script, allZero, runsBy, holdsBy, holds}
 
 unfoldable pub computed : Script → Bool
-unfolding every any same above fromBytes toBytes pieces serverOk raised sum behind zeroFrom vectorFrom vectorBytes decode encode inRange stampOk wellFormed beats records recordBytes message.headerOf message.messageOf message.recordsOk message.messageOk keep counting serverIds writesOf tally inTurn sameRecords best winner phoneIds inSet withPhone members headerOf headerOk checkpoint log freshImage later recovered raisedBy recoveredVector recoveredState recoveredHistory recover vCounts isFirst isLast holdsBefore writesOk readsOk consistent isZero suits soundUp soundDown sound stored byteStores writePlan checkpointPlan newVector newRecord written noted cleared due ownPlan plan ready performed replyTo served cutAfter requestRefusals request requestCut atTurn taken updated updateRefusals update plainRefusals cut recovery step fresh ownMessage runs holds flatMap zipWith
+unfolding every any same above fromBytes toBytes pieces serverOk raised sum behind zeroFrom vectorFrom vectorBytes decode encode inRange stampOk wellFormed beats records recordBytes message.headerOf message.messageOf message.recordsOk message.messageOk keep counting serverIds writesOf tally inTurn sameRecords best winner phoneIds inSet withPhone members headerOf headerOk checkpoint log freshImage later recovered raisedBy recoveredVector recoveredState recoveredHistory recover vCounts isFirst isLast holdsBefore writesOk readsOk consistent isZero suits soundUp soundDown sound stored byteStores writePlan checkpointPlan newVector newRecord written noted cleared due ownPlan plan ready performed replyTo served cutAfter requestRefusals request requestCut atTurn taken updated updateRefusals update plainRefusals cut recovery step fresh ownMessage allZero runsBy holdsBy flatMap zipWith
 computed x = holds x

@@ -3,3 +3,6 @@ pub mod Script
 pub mod Computed
 pub mod Examples
 pub mod Further
+pub mod Layouts
+pub mod Looked
+pub mod Unique

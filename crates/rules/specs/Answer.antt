@@ -40,7 +40,7 @@ refusalNumber TooShort = 9
 abbrev pub refusalReply : Refusal → Reply
 refusalReply r = refused (refusalNumber r)
 
--- ---- the steps' answers
+-- ---- the steps' answers. Which it is, the count of values tells: eight for a write, nine for "no note", ten for a value
 
 -- the reply to a read: the value of the cell's winner, or "no note", with V
 abbrev pub valueReply : ℕ → Vector → Reply

@@ -37,15 +37,23 @@ members set = keep (inSet set) phoneIds
 abbrev pub noReads : ReadTable
 noReads = record { counts = replicate phones 0 }
 
+-- the count at a phone; past the last it is zero
+abbrev pub countAt : ReadTable → PhoneId → ℕ
+countAt t i = getD (t .counts) (i .0) 0
+
+-- the table with another count at a phone; past the last nothing changes
+abbrev pub withCount : ReadTable → PhoneId → ℕ → ReadTable
+withCount t i k = record { counts = set (t .counts) (i .0) k }
+
 abbrev pub inCR : State → PhoneId → Bool
 inCR s i = inSet (s .cr) i
 
 abbrev pub rwAt : State → PhoneId → ℕ
-rwAt s i = getD (s .rw .counts) (i .0) 0
+rwAt s i = countAt (s .rw) i
 
 -- RW with another count at a phone
 abbrev pub rwWith : State → PhoneId → ℕ → ReadTable
-rwWith s i k = record { counts = set (s .rw .counts) (i .0) k }
+rwWith s i k = withCount (s .rw) i k
 
 -- all numbers zero but for N and own number
 abbrev pub blank : Bool → ℕ → ServerId → State

@@ -112,3 +112,7 @@ happens m j what.Recovery v msg = recovery m j
 
 unfoldable pub step : Memory → Event → Vector → List ℕ → Effect
 step m e v msg = happens m (e .server) (e .what) v msg
+
+-- what a server does with an event: `step`, or a wrong one that is held to the same examples and statements
+abbrev pub Rule : Type 0
+Rule = Memory → Event → Vector → List ℕ → Effect

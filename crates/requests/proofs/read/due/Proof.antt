@@ -9,8 +9,8 @@ returns : tie.Need-returns
 unfolding due
 returns c =
     let told : tie.After-is-in = search in
-    λ cell. rw (told .is-in .ensures)
+    let read : tie.After-at = search in
+    λ cell. rw (told .is-in .ensures, read .at .ensures)
 
 pub due-spec : {M : Type 1} → statement M
-due-spec =
-    tie.close (tie.spec (search needs) (search needs) (search needs) (search needs) returns)
+due-spec = tie.close (tie.spec (search needs) (search needs) returns)

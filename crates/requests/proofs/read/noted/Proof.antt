@@ -17,9 +17,9 @@ unfolding noted
 returns-2 c =
     let new : tie.Else1 = search in
     let told : tie.After-is-in = search in
-    λ cell. rw (sym (told .is-in .ensures) ∙ new .if1 .left, c .with-phone .ensures)
+    let added : tie.After-with-phone = search in
+    let set : tie.After-with = search in
+    λ cell. rw (sym (told .is-in .ensures) ∙ new .if1 .left, added .with-phone .ensures, set .with .ensures)
 
 pub noted-spec : {M : Type 1} → statement M
-noted-spec =
-    tie.close
-    (tie.spec (search needs) returns (search needs) (search needs) (search needs) (search needs) returns-2)
+noted-spec = tie.close (tie.spec (search needs) returns (search needs) (search needs) returns-2)

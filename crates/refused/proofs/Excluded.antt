@@ -14,12 +14,12 @@ use Rattle.rules.specs.Writes.{server, writesOf}
 use Rattle.rules.specs.Memory.{writes}
 use Rattle.rules.specs.Image.{checkpoint, log}
 use Rattle.rules.specs.Sound.{later, sound}
 use Rattle.farm.specs.Farm.{Record, Rule, Attempt, Farm, performedBy, attempted, Act, serves, cutServing, cuts, takes, hears, isDone, serve, serving, recover, recovering, act, run}
 use Rattle.farm.specs.Demand.{_∈_, AllSound, Recovered, Recovery, OwnStay, ReadsStay, Excluded}
-use Rattle.farm.specs.Wrong.{logsNothing, logsTheFirst, takesTheWholeT, restoresNothing, dropsTheLast, replaysAll, countsFirst, clearsTheLogFirst, servesAlways}
+use Rattle.refused.specs.Wrong.{logsNothing, onlyReplies, logsTheFirst, takesTheWholeT, restoresNothing, dropsTheLast, replaysAll, countsFirst, clearsTheLogFirst, servesAlways}
 use Rattle.farm.proofs.Prefix.{keep-mem}
 use Rattle.farm.proofs.Acted.{acted, new, other, writes5, reads5, asked5, tell, comesBack, acts8}
 use Rattle.farm.proofs.Worked.{true-of, false-of, lent, reached, reached-asking, asks-last, asks-a-read}
 
 -- an empty list
 none-in : {A : Type 0} (l : List A) → length l ≡ 0 → {x : A} → x ∈ l → ⊥
@@ -171,6 +171,11 @@ wrote = writes5 7 ∷ serves 0 (server 0) ∷ cuts (server 0) ∷ []
 pub restores-nothing : Excluded restoresNothing Recovery
 unfolding acted restoresNothing
 restores-nothing = other-writes restoresNothing 2 (omega arith) wrote (omega arith) tt
+
+-- sound all the while: it has told the phone of a write that it never had
+pub only-replies : Excluded onlyReplies Recovery
+unfolding acted onlyReplies
+only-replies = all-missing onlyReplies 2 (omega arith) wrote (omega arith) tt
 
 pub drops-the-last : Excluded dropsTheLast Recovery
 unfolding acted dropsTheLast

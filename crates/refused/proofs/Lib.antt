@@ -1,0 +1,3 @@
+-- The files of theorems.
+pub mod Refused
+pub mod Excluded
