@@ -16,7 +16,8 @@
  * it whole or not at all, or else in store order: the bytes of the new records in order, then the count, and each count whole
  * (SSALDORIP_WRITE_STORES and ssaldorip_read_cut list the stores).
  *
- * A phone stores its session, raised by a read's reply, before it shows the reply's value (ssaldorip_session_raise).
+ * A phone raises its session by each reply and stores it: after a read before it shows the value (ssaldorip_session_raise),
+ * after a write before it tells the grower that the note is saved (ssaldorip_session_raise_written).
  */
 #ifndef SSALDORIP_H
 #define SSALDORIP_H
@@ -29,7 +30,7 @@ extern "C" {
 #endif
 
 /* The version of this interface. It grows whenever a signature, a size or what a call returns changes. */
-#define SSALDORIP_VERSION 1
+#define SSALDORIP_VERSION 2
 
 /* Limits. Numbers of servers, phones and cells begin at 0. */
 #define SSALDORIP_SERVERS 8           /* N is 1 to this, and a vector has this many positions */
@@ -41,6 +42,7 @@ extern "C" {
 /* Sizes in bytes. */
 #define SSALDORIP_RECORD_SIZE 28      /* origin 1, phone 1, cell 2, value 4, phone time 4, timestamp T 16 */
 #define SSALDORIP_VECTOR_SIZE 16      /* eight positions of 2; positions from N on are zero */
+#define SSALDORIP_SESSION_SIZE 33     /* vector of reads 16, vector of own writes 16, choice 1 */
 #define SSALDORIP_STATE_SIZE 160      /* N 1, own number 1, up 1, zero 1, held 2, nWrites 2, V 16, CR 8, RW 64 x 2 */
 #define SSALDORIP_HISTORY_SIZE 7168   /* 256 records */
 #define SSALDORIP_IMAGE_SIZE 8976     /* header 16, 256 checkpoint records, 64 log records */
@@ -56,10 +58,19 @@ extern "C" {
 /* The stores of a write, for ssaldorip_write_cut: the 28 bytes of the record in order, then the log count. */
 #define SSALDORIP_WRITE_STORES 29
 
+/* What a session chooses, for as long as it lasts: which writes a server must have to serve its reads. */
+enum ssaldorip_choice {
+    /* Reads that stay read: what the session has read. */
+    SSALDORIP_READS = 1,
+    /* Own writes: those whose replies the session has received. What it has read may then be missing. */
+    SSALDORIP_WRITES = 2,
+    SSALDORIP_BOTH = 3
+};
+
 /* Why a call is refused. */
 enum ssaldorip_refusal {
     /* In a call or event, N, server, phone, cell, origin or cut count out of range; the event's server is not the
-     * state's own; a vector past N is not zero. */
+     * state's own; a vector past N is not zero; a session's choice is unknown. */
     SSALDORIP_OUT_OF_RANGE = 1,
     /* Server down; for recovery, up. */
     SSALDORIP_NOT_UP = 2,
@@ -100,9 +111,9 @@ uint32_t ssaldorip_start(uint8_t n, uint8_t own,
                          uint8_t *history, size_t history_len,
                          uint8_t *image, size_t image_len);
 
-/* Serves a phone's read of a cell. `asked` is the session's vector. The reply is the value of the cell's winner, or "no
- * note", and V. A second read (the phone is in CR) takes a checkpoint first, which changes the image, if at the phone's
- * first read the checkpoint lacked own writes of the server.
+/* Serves a phone's read of a cell. `asked` is what ssaldorip_session_asks gives. The reply is the value of the cell's winner,
+ * or "no note", and V. A second read (the phone is in CR) takes a checkpoint first, which changes the image, if at the
+ * phone's first read the checkpoint lacked own writes of the server.
  * Refuses 9 (state, asked), 9 (history, image), 6, 2, 1 (server, phone, cell, asked past N), 3, 9 (reply under 21). */
 uint32_t ssaldorip_read(uint8_t *state, size_t state_len,
                         uint8_t *history, size_t history_len,
@@ -123,7 +134,8 @@ uint32_t ssaldorip_read_cut(uint8_t *state, size_t state_len,
                             uint32_t stores);
 
 /* Serves a phone's write of a cell: value and phone time are any numbers. `asked` is the zero vector from every phone. The
- * write is in the log of the image and at the history's end. The reply is V, which at `server` is the write's number.
+ * write is in the log of the image and at the history's end. The reply is V, which at `server` is the write's number, and the
+ * phone's session is raised by it (ssaldorip_session_raise_written).
  * Refuses 9 (state, asked), 9 (history, image), 6, 2, 1 (server, phone, cell, asked past N), 3, 4, 5, 9 (reply under 16). */
 uint32_t ssaldorip_write(uint8_t *state, size_t state_len,
                          uint8_t *history, size_t history_len,
@@ -228,12 +240,32 @@ size_t ssaldorip_message_first(const uint8_t *message, size_t message_len);
 size_t ssaldorip_message_next(const uint8_t *message, size_t message_len, size_t at,
                               uint8_t *record, size_t record_len);
 
-/* Raises a phone's session in place by the vector of a read's reply (its last 16 bytes): the maximum at each position. A
- * write's reply leaves the session, so it is not given here. A new session is 16 zero bytes. The phone stores the raised
- * session before it shows the reply's value, or it may forget that the value was seen, and take an older one later.
- * Refuses 9 (session or reply_vector under 16). */
+/* Begins a phone's session: both vectors are zero, and no later call changes the choice. A phone keeps one session, and a
+ * reinstalled app begins a new one. A session that was stored by version 1 has 16 bytes and is refused with 9: the app appends
+ * 16 zero bytes and the byte 1.
+ * Refuses 9 (session under 33), 1 (choice is not 1, 2 or 3). */
+uint32_t ssaldorip_session_start(uint8_t choice,
+                                 uint8_t *session, size_t session_len);
+
+/* Raises a session in place by the vector of a read's reply (its last 16 bytes): its vector of reads becomes the maximum at
+ * each position, whatever the choice. The phone stores the raised session before it shows the reply's value, or it may forget
+ * that the value was seen, and take an older one later.
+ * Refuses 9 (session under 33, reply_vector under 16), 1 (byte 32 of the session is no choice). */
 uint32_t ssaldorip_session_raise(uint8_t *session, size_t session_len,
                                  const uint8_t *reply_vector, size_t reply_vector_len);
+
+/* The same by a write's reply (all of it), which raises the vector of own writes. A session does not know of a note whose
+ * reply is not given here, or is forgotten, and a later read may be served without it: so the phone stores the raised session
+ * before it tells the grower that the note is saved.
+ * Refuses as ssaldorip_session_raise does. */
+uint32_t ssaldorip_session_raise_written(uint8_t *session, size_t session_len,
+                                         const uint8_t *reply_vector, size_t reply_vector_len);
+
+/* Writes what the session's next read carries at the start of `asked`: of the two vectors the one that was chosen, or the
+ * maximum of both. A write carries zero. The other bytes of `asked` stay.
+ * Refuses 9 (session under 33), 1 (byte 32 of the session is no choice), 9 (asked under 16). */
+uint32_t ssaldorip_session_asks(const uint8_t *session, size_t session_len,
+                                uint8_t *asked, size_t asked_len);
 
 #ifdef __cplusplus
 }

@@ -186,7 +186,8 @@ READ, READ_ANEW = (("[1,0]", ["phone 5", f"RW[5] = {rw}"], [1]) for rw in (1, 0)
 RUN = [
     (66, None, FRESH, [], [], "Server 0 of N = 2 starts anew", "Both counts are zero."),
     (80, None, WRITTEN, [], [1], "Phone 5 writes cell 300, value 7",
-     f"{WRITE_STORES} stores: {RECORD} record bytes, then log count 1.", "Reply: V = [1,0]. Session R stays [0,0]."),
+     f"{WRITE_STORES} stores: {RECORD} record bytes, then log count 1.",
+     "Reply: V = [1,0]. W is raised to [1,0], R stays [0,0]."),
     (80, None, READ, [], [1], "Phone 5 reads cell 300 with R = [0,0]",
      "First read: phone 5 enters CR, RW[5] = nWrites = 1.", "No stores. Reply: value 7 and V. R is raised to [1,0]."),
     (158, checkpoint_stores, READ, [], [1], "Phone 5 reads cell 300 again, with R = [1,0]",
@@ -235,9 +236,11 @@ def run_picture():
     picture.text(
         WORDS_X, end + 28, "", "The number in a box is the write's number. A dashed box is a place past the count.",
         "Write 1: origin 0, number 1, phone 5, cell 300, value 7, T = [1,0].",
+        "R and W are the vectors of the phone's session: of its reads, and of its own writes. "
+        "Its choice is 1: a read carries R.",
         f"The same checkpoint cut after {RECORD} stores leaves counts 0 and 1; after {CHECKPOINT_STORES}, "
         "counts 1 and 0. Each recovers one write.")
-    picture.save("run.svg", end + 84, "A run with a cut and a recovery", (
+    picture.save("run.svg", end + 84 + PITCH, "A run with a cut and a recovery", (
         "Server 0 of two serves a write and a read of phone 5. A second read takes a checkpoint; power is cut after "
         f"{CUT_AFTER} of its {CHECKPOINT_STORES} stores, and both counts are 1. Recovery takes the write from the "
         "checkpoint and not again from the log. The phone's next read is served: value 7."))

@@ -138,8 +138,20 @@ pub fn message_next(message: &[u8], at: usize, record: &mut [u8]) -> usize {
     call!(ssaldorip_message_next: ref message, at, mut record)
 }
 
+pub fn session_start(choice: u8, session: &mut [u8]) -> u32 {
+    call!(ssaldorip_session_start: choice, mut session)
+}
+
 pub fn session_raise(session: &mut [u8], reply_vector: &[u8]) -> u32 {
     call!(ssaldorip_session_raise: mut session, ref reply_vector)
+}
+
+pub fn session_raise_written(session: &mut [u8], reply_vector: &[u8]) -> u32 {
+    call!(ssaldorip_session_raise_written: mut session, ref reply_vector)
+}
+
+pub fn session_asks(session: &[u8], asked: &mut [u8]) -> u32 {
+    call!(ssaldorip_session_asks: ref session, mut asked)
 }
 
 #[cfg(test)]

@@ -7,12 +7,12 @@ use std::fmt;
 #[derive(Clone, Copy, Debug, PartialEq, Eq, Hash, PartialOrd, Ord)]
 #[repr(u8)]
 pub enum Refusal {
-    /// 1: N, server, phone, cell, origin or cut count out of range, or a vector that is not zero past N.
+    /// 1: N, server, phone, cell, origin or cut count out of range, a vector that is not zero past N, or an unknown choice.
     OutOfRange = 1,
     /// 2: the server is down; for a recovery, it is up.
     NotUp = 2,
-    /// 3: not yet. V is below the request's vector at some position: the server lacks a write that the phone has read.
-    /// The phone asks again later, or at another server.
+    /// 3: not yet. V is below the request's vector at some position: the server lacks a write that the phone has read or
+    /// made. The phone asks again later, or at another server.
     NotYet = 3,
     /// 4: a write with 256 held, or an update whose new writes take the history past 256.
     HistoryFull = 4,
@@ -67,7 +67,7 @@ impl fmt::Display for Refusal {
         let words = match self {
             Refusal::OutOfRange => "a number is out of range",
             Refusal::NotUp => "the server is down (for a recovery: up)",
-            Refusal::NotYet => "not yet: the server lacks a write that the phone has read",
+            Refusal::NotYet => "not yet: the server lacks a write that the phone has read or made",
             Refusal::HistoryFull => "the history is full",
             Refusal::LogFull => "the log is full",
             Refusal::Unsound => "state or image unsound, or message malformed",

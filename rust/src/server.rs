@@ -133,7 +133,8 @@ impl Server {
     }
 
     /// Serves a phone's write. `asked` is what the request carries: [`Session::for_write`](crate::Session::for_write), zero
-    /// from every phone. The reply is V; it does not raise a session.
+    /// from every phone. The reply is V, by which the phone raises its session:
+    /// [`Session::raise_written`](crate::Session::raise_written).
     ///
     /// The write is in the image, which is to be stored before the reply goes out.
     ///

@@ -3,7 +3,7 @@
 
 /// The version of the C interface that this package is made for. At its first call the package asks the archive for its
 /// own, and panics if it is another.
-pub const VERSION: u32 = 1;
+pub const VERSION: u32 = 2;
 
 #[rustfmt::skip]
 extern "C" {
@@ -61,7 +61,12 @@ extern "C" {
     pub fn ssaldorip_message_next(
         message: *const u8, message_len: usize, at: usize, record: *mut u8, record_len: usize,
     ) -> usize;
+    pub fn ssaldorip_session_start(choice: u8, session: *mut u8, session_len: usize) -> u32;
     pub fn ssaldorip_session_raise(
         session: *mut u8, session_len: usize, reply_vector: *const u8, reply_vector_len: usize,
     ) -> u32;
+    pub fn ssaldorip_session_raise_written(
+        session: *mut u8, session_len: usize, reply_vector: *const u8, reply_vector_len: usize,
+    ) -> u32;
+    pub fn ssaldorip_session_asks(session: *const u8, session_len: usize, asked: *mut u8, asked_len: usize) -> u32;
 }

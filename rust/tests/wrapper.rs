@@ -1,8 +1,9 @@
-//! The package from outside: document 01's examples 1, 2, 4, 7 and 8, each refusal, recovery from a stored image, messages.
+//! The package from outside: document 01's examples 1, 2, 4, 7 and 8, each refusal, recovery from a stored image, sessions,
+//! messages.
 
 use ssaldorip::{
-    look_up, Cell, Message, NoRefusal, PhoneId, Read, Record, Records, Refusal, Server, ServerId, Session, Status,
-    Vector, Write, HISTORY_LEN, IMAGE_LEN, STATE_LEN, WRITE_STORES,
+    look_up, Cell, Choice, Message, NoRefusal, PhoneId, Read, Record, Records, Refusal, Server, ServerId, Session,
+    Status, Vector, Write, HISTORY_LEN, IMAGE_LEN, STATE_LEN, WRITE_STORES,
 };
 
 const PHONE: PhoneId = PhoneId(5);
@@ -266,10 +267,10 @@ fn refusals_and_numbers() {
         assert_eq!(Refusal::try_from(number), Err(NoRefusal(number)));
     }
     let as_error: Box<dyn std::error::Error + Send + Sync> = Refusal::NotYet.into();
-    assert_eq!(as_error.to_string(), "refused 3: not yet: the server lacks a write that the phone has read");
+    assert_eq!(as_error.to_string(), "refused 3: not yet: the server lacks a write that the phone has read or made");
 }
 
-// ---------------------------------------------------------------- the image, sessions, messages
+// ---------------------------------------------------------------- the image
 
 #[test]
 fn recovery_from_a_stored_image() {
@@ -322,16 +323,105 @@ fn parts_up_and_down() {
     }
 }
 
-#[test]
-fn a_session_is_raised_by_reads() {
-    let mut session = Session::new();
-    assert_eq!((session.for_read(), session.for_write()), (ZERO, ZERO));
-    session.raise(&Read { value: None, vector: v(&[3, 0, 256, 0, 0, 0, 0, 1]) });
-    session.raise(&Read { value: Some(1), vector: v(&[1, 2, 255]) });
-    assert_eq!(*session.for_read(), v(&[3, 2, 256, 0, 0, 0, 0, 1]));
-    assert_eq!(session.for_write(), ZERO);
-    assert_eq!(Session::from_vector(*session.for_read()), session);
+// ---------------------------------------------------------------- sessions
+
+/// The vector of what was read, the vector of own writes, and the choice's number.
+fn session_bytes(reads: &[u16], writes: &[u16], choice: u8) -> [u8; Session::LEN] {
+    [&v(reads).to_bytes()[..], &v(writes).to_bytes(), &[choice]].concat().try_into().unwrap()
 }
+
+#[test]
+fn choices_and_numbers() {
+    for (number, choice) in (1..).zip(Choice::ALL) {
+        assert_eq!((choice.number(), u8::from(choice)), (number, number));
+        assert_eq!(Choice::try_from(number), Ok(choice));
+    }
+    for number in [0, 4, 255] {
+        assert_eq!(Choice::try_from(number), Err(Refusal::OutOfRange));
+    }
+}
+
+#[test]
+fn a_new_session_is_at_zero() {
+    for choice in Choice::ALL {
+        let session = Session::new(choice);
+        assert_eq!(session.choice(), choice);
+        assert_eq!((session.for_read(), session.for_write()), (*ZERO, *ZERO));
+        assert_eq!(session.to_bytes(), session_bytes(&[], &[], choice.number()));
+    }
+}
+
+#[test]
+fn both_vectors_are_raised_under_each_choice() {
+    let (reads, writes) = ([3, 2, 256, 0, 0, 0, 0, 1], [2, 5, 0, 0, 0, 0, 0, 0xffff]);
+    for (choice, carried) in
+        [(Choice::Reads, reads), (Choice::Writes, writes), (Choice::Both, [3, 5, 256, 0, 0, 0, 0, 0xffff])]
+    {
+        let mut session = Session::new(choice);
+        session.raise(&Read { value: None, vector: v(&[3, 0, 256, 0, 0, 0, 0, 1]) });
+        session.raise(&Read { value: Some(1), vector: v(&[1, 2, 255]) });
+        assert_eq!(session.to_bytes(), session_bytes(&reads, &[], choice.number()));
+        session.raise_written(&v(&[0, 5, 0, 0, 0, 0, 0, 0xffff]));
+        session.raise_written(&v(&[2, 4]));
+        assert_eq!(session.to_bytes(), session_bytes(&reads, &writes, choice.number()));
+        assert_eq!((session.for_read(), session.for_write()), (v(&carried), *ZERO));
+        assert_eq!(session.choice(), choice);
+    }
+}
+
+#[test]
+fn a_session_as_bytes() {
+    // The library knows the choices that the package knows.
+    for number in 0..=255 {
+        let bytes = session_bytes(&[1, 0x0201], &[0, 7], number);
+        let session = Session::from_bytes(&bytes);
+        assert_eq!(session.map(|session| session.choice()), Choice::try_from(number));
+        assert_eq!(session.map(|session| session.to_bytes()).unwrap_or(bytes), bytes);
+    }
+    let bytes = session_bytes(&[1, 0x0201], &[0, 7], 3);
+    assert_eq!((bytes[..4].to_vec(), bytes[16..20].to_vec(), bytes[32]), (vec![1, 0, 1, 2], vec![0, 0, 7, 0], 3));
+    assert_eq!(
+        format!("{:?}", Session::from_bytes(&bytes).unwrap()),
+        "Session { reads: Vector([1, 513, 0, 0, 0, 0, 0, 0]), writes: Vector([0, 7, 0, 0, 0, 0, 0, 0]), choice: Both }"
+    );
+}
+
+#[test]
+fn a_session_of_an_old_store() {
+    for choice in Choice::ALL {
+        let session = Session::from_vector(choice, v(&[3, 0, 256]));
+        assert_eq!(session.to_bytes(), session_bytes(&[3, 0, 256], &[], choice.number()));
+    }
+}
+
+/// A phone that has written at one server asks another, before and after the update.
+fn asks_elsewhere(session: &Session) -> [Result<Option<u32>, Refusal>; 2] {
+    let (mut barn, mut house) = (fresh(2, 0), fresh(2, 1));
+    barn.write(PHONE, NOTE, ZERO).unwrap();
+    let before = house.read(PHONE, CELL, &session.for_read());
+    house.update(&barn.message().unwrap()).unwrap();
+    [before, house.read(PHONE, CELL, &session.for_read())].map(|reply| reply.map(|read| read.value))
+}
+
+#[test]
+fn a_phone_finds_its_own_writes() {
+    let reply = v(&[1, 0]);
+    for choice in Choice::ALL {
+        // Whose reply was forgotten is not known of.
+        let mut session = Session::new(choice);
+        assert_eq!(asks_elsewhere(&session), [Ok(None), Ok(Some(7))]);
+        session.raise_written(&reply);
+        let before = if choice == Choice::Reads { Ok(None) } else { Err(Refusal::NotYet) };
+        assert_eq!(asks_elsewhere(&session), [before, Ok(Some(7))]);
+
+        let mut session = Session::new(choice);
+        session.raise(&Read { value: Some(7), vector: reply });
+        let before = if choice == Choice::Writes { Ok(None) } else { Err(Refusal::NotYet) };
+        assert_eq!(asks_elsewhere(&session), [before, Ok(Some(7))]);
+    }
+}
+
+// ---------------------------------------------------------------- replies, messages
 
 #[test]
 fn a_read_reply_as_bytes() {
@@ -460,4 +550,5 @@ fn servers_go_to_other_threads() {
     can_go::<Server>();
     can_go::<Message>();
     can_go::<Session>();
+    can_go::<Choice>();
 }

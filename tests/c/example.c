@@ -1,4 +1,4 @@
-/* Two servers and a phone, in C over include/ssaldorip.h: writes, a message, reads by a session, a cut, a recovery. Prints
+/* Two servers and a phone, in C over include/ssaldorip.h: a session, writes, a message, reads, a cut, a recovery. Prints
  * what it sees, which is the file expected.txt, and ends with status 0 if no call was refused that should not be. */
 #include <inttypes.h>
 #include <stdio.h>
@@ -52,30 +52,37 @@ static void start(struct server *s, uint8_t own) {
     done("start", ssaldorip_start(SERVERS, own, BUFFERS(s)));
 }
 
-static void write_note(struct server *s, uint32_t value, uint32_t time) {
+/* A write request carries the zero vector. Its reply raises the phone's session, which is stored before "saved" is shown. */
+static void write_note(struct server *s, uint8_t *session, uint32_t value, uint32_t time) {
     uint8_t reply[SSALDORIP_WRITE_REPLY_SIZE];
-    /* A write request carries the zero vector, and its reply leaves the session. */
     done("write", ssaldorip_write(BUFFERS(s), s->own, PHONE, CELL, value, time, zero, sizeof zero, reply, sizeof reply));
+    done("raise", ssaldorip_session_raise_written(session, SSALDORIP_SESSION_SIZE, reply, sizeof reply));
     printf("server %d: write of %" PRIu32 ", V", s->own, value);
     print_vector(reply);
 }
 
-/* A read by the phone's session, which the reply raises. */
+/* What a read of the phone carries. */
+static void ask(const uint8_t *session, uint8_t *asked) {
+    done("asks", ssaldorip_session_asks(session, SSALDORIP_SESSION_SIZE, asked, SSALDORIP_VECTOR_SIZE));
+}
+
+/* A read by the phone's session. Its reply raises the session, which is stored before the value is shown. */
 static void read_note(struct server *s, uint8_t *session) {
-    uint8_t reply[SSALDORIP_READ_REPLY_SIZE];
-    uint32_t refusal = ssaldorip_read(BUFFERS(s), s->own, PHONE, CELL, session, SSALDORIP_VECTOR_SIZE, reply, sizeof reply);
+    uint8_t asked[SSALDORIP_VECTOR_SIZE], reply[SSALDORIP_READ_REPLY_SIZE];
+    ask(session, asked);
+    uint32_t refusal = ssaldorip_read(BUFFERS(s), s->own, PHONE, CELL, asked, sizeof asked, reply, sizeof reply);
     printf("server %d: read, ", s->own);
     if (refusal == SSALDORIP_NOT_YET) {
         printf("not yet\n");
         return;
     }
     done("read", refusal);
+    done("raise", ssaldorip_session_raise(session, SSALDORIP_SESSION_SIZE, reply + 5, SSALDORIP_VECTOR_SIZE));
     if (reply[0] == 1)
         printf("value %" PRIu32 ", V", u32_at(reply + 1));
     else
         printf("no note, V");
     print_vector(reply + 5);
-    done("raise", ssaldorip_session_raise(session, SSALDORIP_VECTOR_SIZE, reply + 5, SSALDORIP_VECTOR_SIZE));
 }
 
 /* Whether a server can go on with what it has or, if down, be brought back from it. */
@@ -128,20 +135,21 @@ static void print_look_up(const struct server *s, uint8_t origin, uint32_t numbe
 
 int main(void) {
     static struct server zeroth, first;
-    uint8_t session[SSALDORIP_VECTOR_SIZE] = {0};
+    uint8_t session[SSALDORIP_SESSION_SIZE], asked[SSALDORIP_VECTOR_SIZE];
     uint8_t records[2 * SSALDORIP_RECORD_SIZE], message[SSALDORIP_MESSAGE_HEADER + sizeof records];
 
     same_version();
     start(&zeroth, 0);
     start(&first, 1);
+    done("session", ssaldorip_session_start(SSALDORIP_BOTH, session, sizeof session));
 
+    /* The other server lacks the phone's own note, which the phone has not read yet either. A message brings it. */
     read_note(&zeroth, session);
-    write_note(&zeroth, 7, 900);
-    read_note(&zeroth, session);
+    write_note(&zeroth, session, 7, 900);
     read_note(&first, session);
     send_message(&zeroth, &first);
     read_note(&first, session);
-    write_note(&first, 8, 901);
+    write_note(&first, session, 8, 901);
     send_message(&first, &zeroth);
     read_note(&zeroth, session);
     print_status(&zeroth);
@@ -168,11 +176,12 @@ int main(void) {
                                           SSALDORIP_WRITE_STORES - 1));
     done("recover", ssaldorip_recover(BUFFERS(&zeroth), zeroth.own));
     print_look_up(&zeroth, 0, 2);
-    write_note(&zeroth, 9, 902);
+    write_note(&zeroth, session, 9, 902);
 
     /* A read that takes a checkpoint, cut after one of its stores: both counts are as before. */
     read_note(&zeroth, session);
-    done("read_cut", ssaldorip_read_cut(BUFFERS(&zeroth), zeroth.own, PHONE, CELL, session, sizeof session, 1));
+    ask(session, asked);
+    done("read_cut", ssaldorip_read_cut(BUFFERS(&zeroth), zeroth.own, PHONE, CELL, asked, sizeof asked, 1));
     print_status(&zeroth);
 
     /* The restart of a program: the image alone is left. It is sound, and with another log count it is not. */

@@ -1,13 +1,14 @@
--- Worked runs, by computation: reads are served and refused, cuts fall amid the stores, and a server forgets what it has shown.
+-- Worked runs, by computation: reads are served and refused by each choice, cuts fall amid the stores, and a server forgets what it has shown.
 -- Assumes nothing.
 use Prim.Native.Nat.{ℕ}
-use mathlib.Core.Bool.{_&&_}
+use mathlib.Core.Bool.{Bool, _&&_}
 use mathlib.Core.List.{List, [], _∷_, _++_, flatMap}
 use lib.Dec.{T, eqb}
-use lib.ListN.{length, replicate}
+use lib.ListN.{length, replicate, take}
 use Rattle.notes.specs.Message.{historyMost, messageSize}
 use Rattle.notes.specs.Lists.{same}
-use Rattle.notes.specs.Session.{afterRead, afterWrite}
+use Rattle.notes.specs.Session.{chosenOf, afterRead, afterWrite}
+use Rattle.notes.specs.declared.session.Choice.the-variants.{Reads, Writes, Both}
 use Rattle.notes.specs.Vector.{maximum}
 use Rattle.rules.specs.declared.event.Request.the-variants.{Read, Write}
 use Rattle.rules.specs.Writes.{server, sameRecords}
@@ -17,11 +18,11 @@ use Rattle.rules.specs.Calls.{start, message}
 use Rattle.rules.specs.Step.{step}
 use Rattle.rules.proofs.Computed.{computed}
 use Rattle.rules.proofs.Script.{note}
-use Rattle.farm.specs.Farm.{Record, Rule, Asked, Farm, newFarm, performedBy, Act, asks, serves, cutServing, cuts, recovers, tells, takes, hears, asking, hearing, recordOf, attempted, areBytes, stepAt, serve, serving, servingCut, recover, recovering, telling, act, run}
+use Rattle.farm.specs.Farm.{Choice, Record, Rule, Asked, Farm, newFarm, performedBy, Act, asks, serves, cutServing, cuts, recovers, tells, takes, hears, reinstalls, asking, hearing, recordOf, attempted, areBytes, stepAt, serve, serving, servingCut, recover, recovering, telling, act, run}
 
 -- the definitions opened all at once: where this is unfolded, a run is computed
 unfoldable pub acted : Rule → Farm → List Act → Farm
-unfolding computed newFarm start asking hearing recordOf stepAt serving servingCut recover recovering areBytes telling act run afterRead afterWrite maximum message flatMap
+unfolding computed newFarm start asking hearing recordOf stepAt serving servingCut recover recovering areBytes telling act run afterRead afterWrite chosenOf maximum message flatMap
 acted rule f acts = run rule f acts
 
 -- N servers in zeroed buffers
@@ -170,3 +171,46 @@ pub forgotten :
     && eqb (answer (act step f (takes 0 (server 0))) 0) 0)
 unfolding acted
 forgotten = tt
+
+-- ---- own writes: phone 5 begins a session of this choice, saves a note at server 0, hears the reply, and drives on to server 1
+
+abbrev pub saved : Choice → List Act
+saved c = reinstalls (phone 5) c ∷ writes5 7 ∷ serves 0 (server 0) ∷ hears 0 ∷ tell 0 ∷ []
+
+-- until server 1 has server 0's update
+abbrev pub savedLate : Choice → List Act
+savedLate c = saved c ++ takes 0 (server 1) ∷ []
+
+-- what the reply says of the cell: 0 for "no note", or 1 and the value
+abbrev told : Farm → ℕ → List ℕ
+told f j = take 2 (serve step f (server j) (asked5 f) .reply .values)
+
+-- before the update: under 1 server 1 shows the cell without the note, under 2 and 3 it says "not yet"; after it each finds the note
+abbrev finds : Choice → ℕ → Bool
+finds c k =
+    let f = run step (new 2) (saved c) in
+    let g = act step f (takes 0 (server 1)) in
+    eqb (answer f 1) k && sameRecords (asked5 f .wrote) (first8 ∷ []) && eqb (answer g 1) 0 && same (told g 1) (1 ∷ 7 ∷ [])
+
+pub own-writes : T (finds Reads 0 && finds Writes 3 && finds Both 3)
+unfolding acted
+own-writes = tt
+
+pub own-unfound : let f = run step (new 2) (saved Reads) in T (same (take 1 (told f 1)) (0 ∷ []))
+unfolding acted
+own-unfound = tt
+
+-- ---- what was read: phone 5 reads phone 6's note at server 1, and drives on to server 0, which has not heard of it: under 1 and 3 it
+-- says "not yet", under 2 it serves the read without the note
+
+abbrev pub read6 : Choice → List Act
+read6 c = reinstalls (phone 5) c ∷ asks (phone 6) (Write 300 7 900) ∷ serves 0 (server 1) ∷ reads5 ∷ serves 0 (server 1) ∷ hears 0 ∷ []
+
+abbrev stays : Choice → ℕ → Bool
+stays c k =
+    let f = run step (new 2) (read6 c) in
+    eqb (answer f 0) k && eqb (length (asked5 f .seen)) 2 && eqb (length (performedBy f (server 0))) 0
+
+pub by-choice : T (stays Reads 3 && stays Writes 0 && stays Both 3)
+unfolding acted
+by-choice = tt

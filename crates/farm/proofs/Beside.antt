@@ -17,7 +17,7 @@ use Rattle.rules.specs.Step.{step}
 use Rattle.laws.proofs.Winner.{winner-none, winner-some}
 use Rattle.farm.specs.Farm.{Farm, performedBy, serve, serving, run}
 use Rattle.farm.specs.Demand.{_∈_, Reached}
-use Rattle.farm.specs.Beside.{Standing, inHistory, inMessage, NothingMadeUp, Shows, value, noNote, ReadsShow, OneName}
+use Rattle.farm.specs.Beside.{Standing, inHistory, inMessage, NothingMadeUp, Shows, value, noNote, owed, ReadsShow, OneName}
 use Rattle.farm.proofs.Prefix.{each-mem, every-mem, changed-same}
 use Rattle.farm.proofs.Held.{Numbered, Placed, Held, placed-grows}
 use Rattle.farm.proofs.Known.{Genuine}
@@ -26,7 +26,7 @@ use Rattle.farm.proofs.Taken.{one-name, held-placed}
 use Rattle.farm.proofs.Inv.{lists-run, Inv}
 use Rattle.farm.proofs.Serving.{done-is}
 use Rattle.farm.proofs.Runs.{run-inv}
-use Rattle.farm.proofs.Demands.{c, i, demand-3}
+use Rattle.farm.proofs.Demands.{c, i, owed-found}
 
 -- what stands anywhere stands in its origin's list
 standing-placed : (n : ℕ) (c : Numbered) (f : Farm) → Inv n c f → (h : List Record) → Standing n f h → (w : Record) → w ∈ h → Placed n c w
@@ -51,7 +51,7 @@ module _ (n : ℕ) (f : Farm) (x : Reached step n f) where
       (placed-grows n (c n f x) (k .lists) (k .grows) w (standing-placed n (c n f x) f (i n f x) h sh w wh))
       (standing-placed n (k .lists) (run step f acts) (k .inv) g sg y yg)
 
-  pub reads-show : ReadsShow n f
+  pub reads-show : ReadsShow step n f
   unfolding serving served replyTo
   reads-show q cell j y e done =
       subst (λ (h : List Record). Shows q cell h a) (sym leaves) (go (winner cell (writes (a .after))) refl)
@@ -65,9 +65,9 @@ module _ (n : ℕ) (f : Farm) (x : Reached step n f) where
       leaves : performedBy (serving step f j q) j ≡ writes (a .after)
       leaves = ap writes (changed-same (f .servers) (j .0) (a .after))
 
-      -- every write seen is there
-      found : (w : Record) → w ∈ q .seen → w ∈ writes (a .after)
-      found w s = subst (λ (h : List Record). w ∈ h) leaves (demand-3 n f x .readsStay q cell j y e done w s)
+      -- every write that it must find is there
+      found : (w : Record) → w ∈ owed q → w ∈ writes (a .after)
+      found w s = subst (λ (h : List Record). w ∈ h) leaves (owed-found n f x q cell j y e refl done w s)
 
       is : a ≡ served m (q .phone) (Read cell)
       is = done-is n (c n f x) f (i n f x) j q done ∙ ap (served m (q .phone)) e

@@ -1,13 +1,14 @@
--- Demand 3 holds in every run.
+-- Demand 3 holds in every run, and a phone finds its own writes.
 -- Assumes nothing.
 use Prim.Native.Nat.{ℕ, _<_}
-use mathlib.Core.Bool.{Bool, true, false, cond, _&&_}
-use mathlib.Core.List.{List, _++_, Memᴰ·append-left}
-use mathlib.Core.Path.{_≡_, ap, sym, subst, _∙_}
+use mathlib.Core.Bool.{Bool, true, false, cond, _&&_, false≢true}
+use mathlib.Core.List.{List, _++_, Memᴰ·append-left, Memᴰ·append-right}
+use mathlib.Core.Path.{_≡_, refl, ap, sym, subst, _∙_}
 use native.Mathlib.Omega.{arith}
 use borrow.Author.Tests.{eq-eqb}
 use lib.Dec.{eqb}
 use lib.ListN.{length}
+use Rattle.notes.specs.declared.session.Choice.the-variants.{Reads, Writes, Both}
 use Rattle.notes.specs.declared.index.ServerId.{ServerId}
 use Rattle.notes.specs.declared.record.Record.{Record}
 use Rattle.notes.specs.declared.vector.Vector.{Vector}
@@ -24,8 +25,9 @@ use Rattle.rules.specs.Step.{plainRefusals, recovery, step}
 use Rattle.laws.proofs.Keeps.{recoveredIn, recovered-writes}
 use Rattle.laws.proofs.Passed.{Granted}
 use Rattle.laws.proofs.Writes.{length-tally}
-use Rattle.farm.specs.Farm.{Attempt, Farm, performedBy, attempted, recordOf, areBytes, Done, isDone, plainly, serve, serving, recover, recovering, run}
-use Rattle.farm.specs.Demand.{_∈_, Lent, Reached, AllSound, Recovered, OwnStay, ReadsStay, Demand3}
+use Rattle.farm.specs.Farm.{Choice, Attempt, Farm, performedBy, attempted, recordOf, areBytes, Done, isDone, plainly, serve, serving, recover, recovering, run}
+use Rattle.farm.specs.Demand.{_∈_, Lent, Reached, AllSound, Recovered, OwnStay, Finds, staysRead, ReadsStay, findsOwn, OwnFound, Demand3}
+use Rattle.farm.specs.Beside.{owedBy, owed}
 use Rattle.farm.proofs.Prefix.{each-mem, pre-mem, mem-keep, keep-mem, changed-same}
 use Rattle.farm.proofs.Held.{Sane, keeps, Numbered, Covered, sane-long, sane-here}
 use Rattle.farm.proofs.Known.{Covers}
@@ -35,6 +37,19 @@ use Rattle.farm.proofs.Inv.{lists-run, Inv}
 use Rattle.farm.proofs.Moves.{bytes-below, lent-keeps, lent-sane, recovers-to}
 use Rattle.farm.proofs.Serving.{fair, done-low, done-sane, done-granted, done-writes}
 use Rattle.farm.proofs.Runs.{reached-inv, run-inv}
+
+-- ---- what a session that chose so has seen, or written, its reads must find
+seen-owed : (o : Choice) (seen wrote : List Record) → staysRead o ≡ true → {w : Record} → w ∈ seen → w ∈ owedBy o seen wrote
+unfolding owedBy
+seen-owed Reads seen wrote e y = y
+seen-owed Writes seen wrote e y = absurd (false≢true e)
+seen-owed Both seen wrote e y = Memᴰ·append-right wrote y
+
+wrote-owed : (o : Choice) (seen wrote : List Record) → findsOwn o ≡ true → {w : Record} → w ∈ wrote → w ∈ owedBy o seen wrote
+unfolding owedBy
+wrote-owed Reads seen wrote e y = absurd (false≢true e)
+wrote-owed Writes seen wrote e y = y
+wrote-owed Both seen wrote e y = Memᴰ·append-left seen y
 
 module _ (n : ℕ) (f : Farm) (x : Reached step n f) where
   abbrev pub c : Numbered
@@ -110,10 +125,10 @@ module _ (n : ℕ) (f : Farm) (x : Reached step n f) where
       let still = keep-mem mine (keeps m′) (subst (λ (l : List Record). w ∈ l) (sym (k .inv .seats .mine (j .0) low)) there) .0 in
       subst (λ (l : List Record). w ∈ l) (keeps-up m′ again) still
 
-  -- ---- what was read stays read
-  reads-stay : ReadsStay step n f
+  -- ---- what a read must find it finds
+  pub owed-found : Finds (λ c. true) owed step n f
   unfolding serving
-  reads-stay q cell j y e done w wy =
+  owed-found q cell j y e chosen done w wy =
       subst (λ (l : List Record). w ∈ l)
       (sym (ap writes (changed-same (f .servers) (j .0) (serve step f j q .after)) ∙ done-writes n c f i j q done (fair n c f i j q y .numbers)))
       (Memᴰ·append-left (recordOf m (q .phone) (q .request)) performed)
@@ -127,11 +142,11 @@ module _ (n : ℕ) (f : Farm) (x : Reached step n f) where
       a : Granted m j (q .phone) (q .request) (q .vector)
       a = done-granted n c f i j q done
 
-      knew : Covers n c (q .vector) (q .seen)
+      knew : Covers n c (q .vector) (owed q)
       knew = fair n c f i j q y .knew (ap isWrite e)
 
       k : Covered n c (q .vector) w
-      k = each-mem (Covered n c (q .vector)) (q .seen) (knew .each) wy
+      k = each-mem (Covered n c (q .vector)) (owed q) (knew .each) wy
 
       v : m .state .vector ≡ tally (keeps m)
       v = kept-vector n j m sane (a .up)
@@ -155,6 +170,15 @@ module _ (n : ℕ) (f : Farm) (x : Reached step n f) where
       performed =
           subst (λ (l : List Record). w ∈ l) (keeps-up m (a .up))
           (covered-held n c (x .few) (lists-run n c (f .servers) (i .seats)) (keeps m) (i .seats .held (j .0) (done-low n c f i j q done)) w covered)
+
+  -- ---- what was read stays read, under 1 and 3
+  reads-stay : ReadsStay step n f
+  reads-stay q cell j y e chosen done w wy = owed-found q cell j y e refl done w (seen-owed (q .choice) (q .seen) (q .wrote) chosen wy)
+
+-- ---- own writes are found, under 2 and 3
+pub own-found : (n : ℕ) (f : Farm) → Reached step n f → OwnFound step n f
+own-found n f x q cell j y e chosen done w wy =
+    owed-found n f x q cell j y e refl done w (wrote-owed (q .choice) (q .seen) (q .wrote) chosen wy)
 
 pub demand-3 : (n : ℕ) (f : Farm) → Reached step n f → Demand3 step n f
 demand-3 n f x =

@@ -3,11 +3,13 @@
 use Prim.Native.Nat.{ℕ, _≤_, _<_}
 use mathlib.Core.Bool.{true, false}
 use mathlib.Core.List.{List, _∷_, _++_, List·Memᴰ·tail}
-use mathlib.Core.Path.{_≡_, sym, _∙_}
+use mathlib.Core.Path.{_≡_, refl, sym, _∙_}
 use native.Mathlib.Omega.{arith}
 use lib.ListN.{length}
 use Rattle.notes.specs.Index.{servers}
 use Rattle.notes.specs.Vector.{at, maximum}
+use Rattle.notes.specs.Session.{chosenOf, readCarries}
+use Rattle.notes.specs.declared.session.Choice.the-variants.{Reads, Writes, Both}
 use Rattle.notes.specs.Message.{brought, messageOk, messageN}
 use Rattle.notes.specs.declared.index.ServerId.{ServerId}
 use Rattle.notes.specs.declared.record.Record.{Record}
@@ -17,9 +19,9 @@ use Rattle.notes.proofs.Pieces.{Each, each-also}
 use Rattle.notes.proofs.Vectors.{at-maximum, length-maximum}
 use Rattle.rules.specs.Request.{isWrite}
 use Rattle.laws.proofs.Keeps.{each-append}
-use Rattle.farm.specs.Farm.{Asked, Phone, Attempt, Sent, Ledger, askable, attempted}
+use Rattle.farm.specs.Farm.{Choice, Asked, Replied, Phone, installed, Attempt, Sent, Ledger, askable, attempted}
 use Rattle.farm.specs.Demand.{_∈_}
-use Rattle.farm.specs.Beside.{Begun}
+use Rattle.farm.specs.Beside.{Begun, owedBy, owed}
 use Rattle.farm.proofs.Prefix.{pre-mem}
 use Rattle.farm.proofs.Held.{Numbered, Grows, Placed, Covered, Held, placed-grows, held-grows}
 
@@ -28,10 +30,20 @@ pub record Covers (n : ℕ) (c : Numbered) (v : Vector) (ws : List Record) : Typ
   pub eight : length (v .counts) ≡ servers
   pub each : Each (Covered n c v) ws
 
--- a request's numbers, and where it is a read what its phone had seen
+-- a phone's two vectors: what its session has seen, and what it has written
+pub record Knows (n : ℕ) (c : Numbered) (p : Phone) : Type 0 where
+  pub reads : Covers n c (p .session .reads) (p .seen)
+  pub writes : Covers n c (p .session .writes) (p .wrote)
+
+-- a reply's vector: what stood in the history, and what was written
+pub record Tells (n : ℕ) (c : Numbered) (r : Replied) : Type 0 where
+  pub history : Covers n c (r .vector) (r .history)
+  pub wrote : Covers n c (r .vector) (r .wrote)
+
+-- a request's numbers, and where it is a read what it must find
 pub record Fair (n : ℕ) (c : Numbered) (q : Asked) : Type 0 where
   pub numbers : askable (q .request) ≡ true
-  pub knew : isWrite (q .request) ≡ false → Covers n c (q .vector) (q .seen)
+  pub knew : isWrite (q .request) ≡ false → Covers n c (q .vector) (owed q)
 
 -- a message by the places of its records; that it is a whole history is for what it is never refused with
 pub record Genuine (n : ℕ) (c : Numbered) (msg : List ℕ) : Type 0 where
@@ -41,9 +53,9 @@ pub record Genuine (n : ℕ) (c : Numbered) (msg : List ℕ) : Type 0 where
   pub held : Held n c (brought msg)
 
 pub record Flight (n : ℕ) (c : Numbered) (phones : ℕ → Phone) (s : Sent) : Type 0 where
-  pub sessions : (i : ℕ) → Covers n c (phones i .session .reads) (phones i .seen)
+  pub sessions : (i : ℕ) → Knows n c (phones i)
   pub requests : Each (Fair n c) (s .requests)
-  pub replies : Each (λ r. Covers n c (r .vector) (r .history)) (s .replies)
+  pub replies : Each (Tells n c) (s .replies)
   pub updates : Each (Genuine n c) (s .updates)
 
 -- the records of attempts, each in a list
@@ -63,6 +75,23 @@ module _ (n : ℕ) (c d : Numbered) (g : Grows n c d) where
         each = each-also (λ w x. record { placed = placed-grows n c d g w (x .placed); counted = x .counted }) ws (k .each);
       }
 
+  knows-grows : (p : Phone) → Knows n c p → Knows n d p
+  knows-grows p k =
+      record {
+        reads = covers-grows (p .session .reads) (p .seen) (k .reads);
+        writes = covers-grows (p .session .writes) (p .wrote) (k .writes);
+      }
+
+  tells-grows : (r : Replied) → Tells n c r → Tells n d r
+  tells-grows r k =
+      record {
+        history = covers-grows (r .vector) (r .history) (k .history);
+        wrote = covers-grows (r .vector) (r .wrote) (k .wrote);
+      }
+
+  fair-grows : (q : Asked) → Fair n c q → Fair n d q
+  fair-grows q k = record { numbers = k .numbers; knew = λ e. covers-grows (q .vector) (owed q) (k .knew e) }
+
   genuine-grows : (msg : List ℕ) → Genuine n c msg → Genuine n d msg
   genuine-grows msg k =
       record {
@@ -75,9 +104,9 @@ module _ (n : ℕ) (c d : Numbered) (g : Grows n c d) where
   pub flight-grows : (phones : ℕ → Phone) (s : Sent) → Flight n c phones s → Flight n d phones s
   flight-grows phones s k =
       record {
-        sessions = λ i. covers-grows (phones i .session .reads) (phones i .seen) (k .sessions i);
-        requests = each-also (λ q f. record { numbers = f .numbers; knew = λ e. covers-grows (q .vector) (q .seen) (f .knew e) }) (s .requests) (k .requests);
-        replies = each-also (λ r. covers-grows (r .vector) (r .history)) (s .replies) (k .replies);
+        sessions = λ i. knows-grows (phones i) (k .sessions i);
+        requests = each-also fair-grows (s .requests) (k .requests);
+        replies = each-also tells-grows (s .replies) (k .replies);
         updates = each-also genuine-grows (s .updates) (k .updates);
       }
 
@@ -118,3 +147,17 @@ covers-both n c v w old new k l =
           (each-also (more w (maximum v w) (λ o. omega (arith, m o))) new (l .each))
           (each-also (more v (maximum v w) (λ o. omega (arith, m o))) old (k .each));
     }
+
+-- ---- what a read carries counts what it must find, by the session's choice
+pub carries-owed : (n : ℕ) (c : Numbered) (p : Phone) → Knows n c p → Covers n c (readCarries (p .session)) (owedBy (p .session .choice) (p .seen) (p .wrote))
+unfolding chosenOf owedBy
+carries-owed n c p k = go (p .session .choice)
+  where
+    go : (o : Choice) → Covers n c (chosenOf o (p .session .reads) (p .session .writes)) (owedBy o (p .seen) (p .wrote))
+    go Reads = k .reads
+    go Writes = k .writes
+    go Both = covers-both n c (p .session .reads) (p .session .writes) (p .seen) (p .wrote) (k .reads) (k .writes)
+
+-- ---- nothing is counted yet
+pub new-knows : (n : ℕ) (c : Numbered) (o : Choice) → Knows n c (installed o)
+new-knows n c o = record { reads = record { eight = refl; each = tt }; writes = record { eight = refl; each = tt } }

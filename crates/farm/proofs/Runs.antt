@@ -15,6 +15,7 @@ use Rattle.notes.specs.Bytes.{pieces}
 use Rattle.notes.specs.Record.{records}
 use Rattle.notes.specs.Session.{afterRead, afterWrite}
 use Rattle.notes.specs.Vector.{zeros}
+use Rattle.notes.specs.declared.session.Choice.the-variants.{Reads}
 use Rattle.notes.specs.declared.index.PhoneId.{PhoneId}
 use Rattle.notes.specs.declared.index.ServerId.{ServerId}
 use Rattle.notes.proofs.Numbers.{below-drop}
@@ -35,9 +36,10 @@ use Rattle.laws.proofs.Octets.{below-append, below-zeros, below-fresh}
 use Rattle.laws.proofs.Stores.{fresh-shows}
 use Rattle.farm.specs.Farm.{Replied, Phone, Farm, installed, newFarm, Act, asks, serves, cutServing, cuts, recovers, tells, takes, hears, reinstalls, askable, carries, asking, hearing, withPhone, withRequest, serving, servingCut, telling, plainly, stepAt, inFlight, act, run}
 use Rattle.farm.specs.Demand.{_∈_, Lent, Reached}
+use Rattle.farm.specs.Beside.{owedBy}
 use Rattle.farm.proofs.Prefix.{pre-refl, pre-trans, at-mem, each-mem, mem-each, changed-each}
 use Rattle.farm.proofs.Held.{Sane, keeps, Numbered, Placed, Held}
-use Rattle.farm.proofs.Known.{Covers, Genuine, begun-asked, covers-both}
+use Rattle.farm.proofs.Known.{Covers, Knows, Tells, Genuine, begun-asked, covers-both, carries-owed, new-knows}
 use Rattle.farm.proofs.Steps.{keeps-up, servers-few}
 use Rattle.farm.proofs.Taken.{held-placed}
 use Rattle.farm.proofs.Told.{told-bytes, told-brings, told-below, told-right}
@@ -71,17 +73,17 @@ module _ (n : ℕ) (c : Numbered) (f : Farm) (i : Inv n c f) where
             };
       }
     where
-      knew : (q : Request) → isWrite q ≡ false → Covers n c (carries (f .phones (p .0) .session) q) (f .phones (p .0) .seen)
-      knew (Read cell) r = i .flight .sessions (p .0)
+      knew : (q : Request) → isWrite q ≡ false → let x = f .phones (p .0) in Covers n c (carries (x .session) q) (owedBy (x .session .choice) (x .seen) (x .wrote))
+      knew (Read cell) r = carries-owed n c (f .phones (p .0)) (i .flight .sessions (p .0))
       knew (Write cell value time) r = absurd (false≢true (sym r))
 
-  phone-inv : (p : PhoneId) (x : Phone) → Covers n c (x .session .reads) (x .seen) → Inv n c (withPhone f p x)
+  phone-inv : (p : PhoneId) (x : Phone) → Knows n c x → Inv n c (withPhone f p x)
   phone-inv p x k =
       record {
         seats = i .seats;
         flight =
             record {
-              sessions = changed-each (λ i x. Covers n c (x .session .reads) (x .seen)) (f .phones) (p .0) x (λ o q. i .flight .sessions o) k;
+              sessions = changed-each (λ i x. Knows n c x) (f .phones) (p .0) x (λ o q. i .flight .sessions o) k;
               requests = i .flight .requests;
               replies = i .flight .replies;
               updates = i .flight .updates;
@@ -89,13 +91,18 @@ module _ (n : ℕ) (c : Numbered) (f : Farm) (i : Inv n c f) where
         deeds = i .deeds;
       }
 
-  hear-knows : (r : Replied) (q : Request) → r ∈ f .sent .replies → let x = hearing (f .phones (r .phone .0)) r q in Covers n c (x .session .reads) (x .seen)
+  hear-knows : (r : Replied) (q : Request) → r ∈ f .sent .replies → Knows n c (hearing (f .phones (r .phone .0)) r q)
   unfolding hearing afterRead afterWrite
   hear-knows r (Read cell) y =
       let p = f .phones (r .phone .0) in
-      covers-both n c (p .session .reads) (r .vector) (p .seen) (r .history) (i .flight .sessions (r .phone .0))
-      (each-mem (λ r. Covers n c (r .vector) (r .history)) (f .sent .replies) (i .flight .replies) y)
-  hear-knows r (Write cell value time) y = i .flight .sessions (r .phone .0)
+      let k = i .flight .sessions (r .phone .0) in
+      let t = each-mem (Tells n c) (f .sent .replies) (i .flight .replies) y in
+      record { reads = covers-both n c (p .session .reads) (r .vector) (p .seen) (r .history) (k .reads) (t .history); writes = k .writes }
+  hear-knows r (Write cell value time) y =
+      let p = f .phones (r .phone .0) in
+      let k = i .flight .sessions (r .phone .0) in
+      let t = each-mem (Tells n c) (f .sent .replies) (i .flight .replies) y in
+      record { reads = k .reads; writes = covers-both n c (p .session .writes) (r .vector) (p .wrote) (r .wrote) (k .writes) (t .wrote) }
 
   -- ---- a message
   genuine : (j : ServerId) → j .0 < n → f .servers (j .0) .state .up ≡ true → Genuine n c (ownMessage (f .servers (j .0)))
@@ -156,7 +163,7 @@ module _ (n : ℕ) (c : Numbered) (f : Farm) (i : Inv n c f) where
   act-inv (tells j out) = tell-inv j out
   act-inv (takes k j) = named (getElem? (f .sent .updates) k) refl (λ msg. plainly f j (stepAt step f j what.Update zeros msg)) (λ msg e. moves.take-inv n c f i msg (at-mem (f .sent .updates) k msg e) j)
   act-inv (hears k) = named (getElem? (f .sent .replies) k) refl (λ r. withPhone f (r .phone) (hearing (f .phones (r .phone .0)) r (r .request))) (λ r e. stays (phone-inv (r .phone) _ (hear-knows r (r .request) (at-mem (f .sent .replies) k r e))))
-  act-inv (reinstalls p) = stays (phone-inv p installed (record { eight = refl; each = tt }))
+  act-inv (reinstalls p o) = stays (phone-inv p (installed o) (new-knows n c o))
 
 -- ---- runs
 pub run-inv : (n : ℕ) (c : Numbered) (f : Farm) → Inv n c f → (acts : List Act) → Onward n c (run step f acts)
@@ -239,7 +246,7 @@ module _ (n : ℕ) (few : n ≤ servers) (histories images : ℕ → List ℕ) (
               held = λ j l. rw (keeps-none j l) (record { formed = refl; begins = λ o k. pre-refl [] });
               mine = λ j l. ap (writesOf (server j)) (keeps-none j l);
             };
-        flight = record { sessions = λ i. record { eight = refl; each = tt }; requests = tt; replies = tt; updates = tt };
+        flight = record { sessions = λ i. new-knows n (λ o. []) Reads; requests = tt; replies = tt; updates = tt };
         deeds = record { performed = λ j l. tt; begun = λ j l w m. absurd (List·Memᴰ·not-nil m) };
       }
 

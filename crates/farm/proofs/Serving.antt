@@ -247,7 +247,7 @@ module _ (n : ℕ) (c : Numbered) (f : Farm) (i : Inv n c f) (j : ServerId) (q :
           seats = seats;
           flight =
               let g = flight-grows n c d more (f .phones) (f .sent) (i .flight) in
-              record { sessions = g .sessions; requests = g .requests; replies = (known, g .replies); updates = g .updates };
+              record { sessions = g .sessions; requests = g .requests; replies = (record { history = known; wrote = counted r written }, g .replies); updates = g .updates };
           deeds =
               deeds-next n c (f .servers) (i .seats) (j .0) low (a .after) sound r kept away (f .sent .requests) (f .ledger)
               (record { performed = changed (f .ledger .performed) (j .0) (b ∷ f .ledger .performed (j .0)); begun = changed (f .ledger .begun) (j .0) (b ∷ f .ledger .begun (j .0)) })
@@ -318,15 +318,22 @@ module _ (n : ℕ) (c : Numbered) (f : Farm) (i : Inv n c f) (j : ServerId) (q :
       before : (w : Record) → w ∈ performedBy f j → w ∈ writes (a .after)
       before w z = subst (λ (l : List Record). w ∈ l) (sym (done-writes n c f i j q done (fair .numbers))) (Memᴰ·append-left r z)
 
-      known : Covers n d (a .vector) (performedBy f j ++ writes (a .after))
-      known =
+      -- the write of the request stands there too
+      written : (w : Record) → w ∈ r → w ∈ writes (a .after)
+      written w z = subst (λ (l : List Record). w ∈ l) (sym (done-writes n c f i j q done (fair .numbers))) (Memᴰ·append-right (performedBy f j) z)
+
+      counted : (ws : List Record) → ((w : Record) → w ∈ ws → w ∈ writes (a .after)) → Covers n d (a .vector) ws
+      counted ws there =
           record {
             eight = ap (λ (v : Vector). length (v .counts)) counts ∙ length-tally (writes (a .after));
-            each =
-                each-append (Covered n d (a .vector)) (performedBy f j) (writes (a .after))
-                (mem-each (Covered n d (a .vector)) (performedBy f j) (λ w z. covered w (before w z)))
-                (mem-each (Covered n d (a .vector)) (writes (a .after)) covered);
+            each = mem-each (Covered n d (a .vector)) ws (λ w z. covered w (there w z));
           }
+
+      known : Covers n d (a .vector) (performedBy f j ++ writes (a .after))
+      known =
+          let was = counted (performedBy f j) before in
+          let is = counted (writes (a .after)) (λ w z. z) in
+          record { eight = is .eight; each = each-append (Covered n d (a .vector)) (performedBy f j) (writes (a .after)) (was .each) (is .each) }
 
   pub serve-inv : Onward n c (serving step f j q)
   serve-inv = step-or-not n c f i a (serving step f j q) serve-refused serve-done

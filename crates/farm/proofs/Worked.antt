@@ -9,6 +9,7 @@ use borrow.Author.Tests.{eqb-true, not-true}
 use lib.Dec.{T, ltb}
 use lib.ListN.{replicate, length-replicate}
 use Rattle.notes.specs.Index.{servers}
+use Rattle.notes.specs.declared.session.Choice.the-variants.{Writes}
 use Rattle.notes.specs.Lists.{every}
 use Rattle.notes.proofs.Lists.{both}
 use Rattle.rules.specs.declared.event.Request.the-variants.{Read}
@@ -16,10 +17,10 @@ use Rattle.rules.specs.Writes.{server, sameRecords}
 use Rattle.laws.proofs.Writes.{same-records}
 use Rattle.rules.specs.Image.{historySize, imageSize}
 use Rattle.rules.specs.Step.{step}
-use Rattle.farm.specs.Farm.{Record, Rule, Farm, performedBy, Act, asking, areBytes, isDone, serve, serving, act, run}
-use Rattle.farm.specs.Demand.{_∈_, Lent, Reached, Recovered}
-use Rattle.farm.proofs.Acted.{acted, new, other, reads5, asked5, late2, first2, acts8, cut8}
-use Rattle.farm.proofs.Demands.{demand-3}
+use Rattle.farm.specs.Farm.{Choice, Record, Rule, Asked, Farm, performedBy, Act, asking, areBytes, isDone, serve, serving, act, run}
+use Rattle.farm.specs.Demand.{_∈_, Lent, Reached, Recovered, Finds, staysRead, findsOwn}
+use Rattle.farm.proofs.Acted.{acted, new, other, reads5, asked5, late2, first2, acts8, cut8, first8, savedLate}
+use Rattle.farm.proofs.Demands.{demand-3, own-found}
 
 -- ---- buffers of one byte
 same-bytes : (b : ℕ) → ltb b 256 ≡ true → (k : ℕ) → areBytes (replicate k b) ≡ true
@@ -71,30 +72,46 @@ pub asks-a-read : (f : Farm) → asked5 f .request ≡ Read 300
 unfolding asking
 asks-a-read f = refl
 
--- ---- example 2: its session had seen the first write, and the read is served
-abbrev f2 : Farm
-f2 = run step (new 3) late2
+-- ---- phone 5's read is served at a server, and finds the first of what it must find
+module _ (n : ℕ) (few : n ≤ servers) (acts : List Act) (j : ℕ) (chosen : Choice → Bool) (these : Asked → List Record) (w : Record) (others : List Record) where
+  abbrev at-last : Farm
+  at-last = act step (run step (new n) acts) reads5
 
-abbrev served2 : Farm → Bool
-served2 f = isDone (serve step (act step f reads5) (server 2) (asked5 f) .reply)
+  abbrev isServed : Farm → Bool
+  isServed f = isDone (serve step (act step f reads5) (server j) (asked5 f) .reply)
 
-abbrev seen2 : Farm → Bool
-seen2 f = sameRecords (asked5 f .seen) (first2 ∷ first2 ∷ [])
+  abbrev owes : Farm → Bool
+  owes f = sameRecords (these (asked5 f)) (w ∷ others)
 
-computed2 : let f = f2 in T (served2 f && seen2 f)
+  applied :
+      Finds chosen these step n at-last
+      → (let f = run step (new n) acts in T (isServed f && chosen (asked5 f .choice) && owes f))
+      → w ∈ performedBy (serving step at-last (server j) (asked5 (run step (new n) acts))) (server j)
+  applied h t =
+      let f = run step (new n) acts in
+      let b = both _ (owes f) (true-of _ t) in
+      let a = both (isServed f) (chosen (asked5 f .choice)) (b .0) in
+      h (asked5 f) 300 (server j) (asks-last step f) (asks-a-read f) (a .1) (eqb-true _ 0 (a .0)) w
+      (subst (λ (l : List Record). w ∈ l) (sym (same-records (these (asked5 f)) (w ∷ others) (b .1))) (List·Memᴰ·head refl))
+
+-- example 2: its session had seen the first write
+pub stays2 :
+    let f = run step (new 3) late2 in first2 ∈ performedBy (serving step (act step f reads5) (server 2) (asked5 f)) (server 2)
 unfolding acted
-computed2 = tt
-
-pub stays2 : first2 ∈ performedBy (serving step (act step f2 reads5) (server 2) (asked5 f2)) (server 2)
 stays2 =
-    demand-3 3 (act step f2 reads5) (reached-asking step 3 (omega arith) late2) .readsStay (asked5 f2) 300 (server 2) (asks-last step f2)
-    (asks-a-read f2)
-    (eqb-true _ 0 (so .0))
-    first2
-    (subst (λ (l : List Record). first2 ∈ l) (sym (same-records (asked5 f2 .seen) (first2 ∷ first2 ∷ []) (so .1))) (List·Memᴰ·head refl))
-  where
-    so : (served2 f2 ≡ true) × (seen2 f2 ≡ true)
-    so = both (served2 f2) (seen2 f2) (true-of (served2 f2 && seen2 f2) computed2)
+    applied 3 (omega arith) late2 2 staysRead (λ q. q .seen) first2 (first2 ∷ [])
+    (demand-3 3 (act step (run step (new 3) late2) reads5) (reached-asking step 3 (omega arith) late2) .readsStay)
+    tt
+
+-- and own writes: under 2 it had written
+pub found :
+    let f = run step (new 2) (savedLate Writes) in
+    first8 ∈ performedBy (serving step (act step f reads5) (server 1) (asked5 f)) (server 1)
+unfolding acted
+found =
+    applied 2 (omega arith) (savedLate Writes) 1 findsOwn (λ q. q .wrote) first8 []
+    (own-found 2 (act step (run step (new 2) (savedLate Writes)) reads5) (reached-asking step 2 (omega arith) (savedLate Writes)))
+    tt
 
 -- ---- example 8: the server is down
 is-down8 : T (not (cut8 step .servers 0 .state .up))

@@ -1,19 +1,20 @@
--- Demand 3: what is claimed of every run that starts with empty servers, one to each number.
+-- Demand 3, and that a phone finds its own writes: what is claimed of every run that starts with empty servers, one to each number.
 -- How to read it: `(x : A) → P` is "for every x of A, P"; `A → B` is "if A then B", `A → ⊥` "not A"; `x ≡ y` is "they are equal"; `r .field` is
 -- a field of r, and `j .0` the number of server j; `w ∈ l` is "w, whole, stands in the list l"; `a ++ b` is "the list a, then b".
 -- `f .servers (j .0)` is what server j has in memory and in its stored image.
 -- Assumes nothing.
 use Prim.Native.Nat.{ℕ, _≤_, _<_}
-use mathlib.Core.Bool.{true, false}
+use mathlib.Core.Bool.{Bool, true, false}
 use mathlib.Core.List.{List, _++_, List·Memᴰ}
 use mathlib.Core.Path.{_≡_}
 use lib.ListN.{length}
 use Rattle.notes.specs.Index.{servers}
+use Rattle.notes.specs.declared.session.Choice.the-variants.{Reads, Writes, Both}
 use Rattle.rules.specs.declared.event.Request.the-variants.{Read}
 use Rattle.rules.specs.Memory.{writes}
 use Rattle.rules.specs.Image.{historySize, imageSize, checkpoint, log}
 use Rattle.rules.specs.Sound.{later, sound}
-use Rattle.farm.specs.Farm.{ServerId, Record, Rule, Asked, Attempt, Farm, newFarm, performedBy, attempted, areBytes, Done, Act, serve, serving, recover, recovering, run}
+use Rattle.farm.specs.Farm.{Choice, ServerId, Record, Rule, Asked, Attempt, Farm, newFarm, performedBy, attempted, areBytes, Done, Act, serve, serving, recover, recovering, run}
 
 infix 45 _∈_
 abbrev pub _∈_ : {A : Type 0} → A → List A → Type 0
@@ -74,19 +75,39 @@ OwnStay rule n f =
     → w ∈ performedBy f j
     → w ∈ performedBy (run rule f acts) j
 
--- ---- "Each read served finds performed every write that stood in any server's history when that server served a read whose reply
--- that phone's session had received before asking": in the memory that the read leaves
-abbrev pub ReadsStay : Rule → ℕ → Farm → Type 0
-ReadsStay rule n f =
+-- ---- what a read served finds performed, in the memory that it leaves: each of these writes, where the session chose so
+abbrev pub Finds : (Choice → Bool) → (Asked → List Record) → Rule → ℕ → Farm → Type 0
+Finds chosen these rule n f =
     (q : Asked) (cell : ℕ) (j : ServerId)
     → q ∈ f .sent .requests
     → q .request ≡ Read cell
+    → chosen (q .choice) ≡ true
     → Done (serve rule f j q)
     → (w : Record)
-    → w ∈ q .seen
+    → w ∈ these q
     → w ∈ performedBy (serving rule f j q) j
 
--- ---- all of it
+-- "Each read served finds performed every write that stood in any server's history when that server served a read whose reply that
+-- phone's session had received before asking". Reads under 2 are outside this sentence
+abbrev pub staysRead : Choice → Bool
+staysRead Reads = true
+staysRead Writes = false
+staysRead Both = true
+
+abbrev pub ReadsStay : Rule → ℕ → Farm → Type 0
+ReadsStay = Finds staysRead (λ q. q .seen)
+
+-- and CR 3's own sentence, of the same runs: each read served under 2 or 3 finds performed every write whose reply that session had
+-- received before asking
+abbrev pub findsOwn : Choice → Bool
+findsOwn Reads = false
+findsOwn Writes = true
+findsOwn Both = true
+
+abbrev pub OwnFound : Rule → ℕ → Farm → Type 0
+OwnFound = Finds findsOwn (λ q. q .wrote)
+
+-- ---- all of demand 3
 pub record Demand3 (rule : Rule) (n : ℕ) (f : Farm) : Type 0 where
   pub allSound : AllSound rule n f
   pub recovery : Recovery rule n f

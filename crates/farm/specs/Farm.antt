@@ -10,9 +10,11 @@ use lib.ListN.{getD, getElem?, take}
 use Rattle.notes.specs.Lists.{every}
 use Rattle.notes.specs.Session.{newSession, readCarries, writeCarries, afterRead, afterWrite}
 use Rattle.notes.specs.declared.session.Session.{Session}
+use Rattle.notes.specs.declared.session.Choice.the-variants.{Reads}
 use Rattle.notes.specs.declared.index.PhoneId.{PhoneId}
 use Rattle.notes.specs.Vector.{zeros}
 use Rattle.notes.specs.Reply.{Reply}
+pub use Rattle.notes.specs.declared.session.Choice.{Choice}
 pub use Rattle.notes.specs.declared.index.ServerId.{ServerId}
 pub use Rattle.notes.specs.declared.record.Record.{Record}
 pub use Rattle.notes.specs.declared.vector.Vector.{Vector}
@@ -29,19 +31,24 @@ pub use Rattle.rules.specs.declared.event.What.{What}
 
 -- ---- what is in flight stays there: it may be lost, late or repeated
 
--- a request, the vector that it carries, and the writes that its phone's session had seen before asking
+-- a request and the vector that it carries; its phone's session: what it chose, and the writes that it had seen and those that it had
+-- written before asking
 pub record Asked : Type 0 where
   pub phone : PhoneId
   pub request : Request
   pub vector : Vector
+  pub choice : Choice
   pub seen : List Record
+  pub wrote : List Record
 
--- the reply to a request that was served, and the writes that stood in the server's history as it was served, before and after
+-- the reply to a request that was served, the writes that stood in the server's history as it was served, before and after, and the
+-- write that it was served with, if it was a write's
 pub record Replied : Type 0 where
   pub phone : PhoneId
   pub request : Request
   pub vector : Vector
   pub history : List Record
+  pub wrote : List Record
 
 -- requests, replies and updates, the last first
 pub record Sent : Type 0 where
@@ -51,10 +58,12 @@ pub record Sent : Type 0 where
 
 -- ---- phones, servers
 
--- a session, and the writes seen: those that stood in a server's history as it served a read whose reply the session has received
+-- a session; the writes seen: those that stood in a server's history as it served a read whose reply the session has received; and
+-- the writes written: those whose own reply it has received
 pub record Phone : Type 0 where
   pub session : Session
   pub seen : List Record
+  pub wrote : List Record
 
 -- a request that a server began to perform, and its memory before
 pub record Attempt : Type 0 where
@@ -77,15 +86,15 @@ abbrev pub performedBy : Farm → ServerId → List Record
 performedBy f j = writes (f .servers (j .0))
 
 -- a new session begins at zero
-abbrev pub installed : Phone
-installed = record { session = newSession; seen = [] }
+abbrev pub installed : Choice → Phone
+installed c = record { session = newSession c; seen = []; wrote = [] }
 
--- N servers, each started anew in its lent buffers; nothing was sent
+-- N servers, each started anew in its lent buffers; nothing was sent. Phones begin under choice 1: another begins with `reinstalls`
 unfoldable pub newFarm : ℕ → (ℕ → List ℕ) → (ℕ → List ℕ) → Farm
 newFarm n histories images =
     record {
       servers = λ j. start n (server j) (histories j) (images j) .after;
-      phones = λ i. installed;
+      phones = λ i. installed Reads;
       sent = record { requests = []; replies = []; updates = [] };
       ledger = record { performed = λ j. []; begun = λ j. [] };
     }
@@ -108,7 +117,7 @@ pub data Act : Type 0 where
   tells : (j : ServerId) (out : List ℕ) → Act
   takes : (update : ℕ) (j : ServerId) → Act
   hears : (reply : ℕ) → Act
-  reinstalls : (i : PhoneId) → Act
+  reinstalls : (i : PhoneId) (choice : Choice) → Act
 
 -- ---- a phone
 
@@ -125,11 +134,11 @@ carries s (Write cell value time) = writeCarries s
 unfoldable pub asking : Farm → PhoneId → Request → Asked
 asking f i q =
     let p = f .phones (i .0) in
-    record { phone = i; request = q; vector = carries (p .session) q; seen = p .seen }
+    record { phone = i; request = q; vector = carries (p .session) q; choice = p .session .choice; seen = p .seen; wrote = p .wrote }
 
 unfoldable pub hearing : Phone → Replied → Request → Phone
-hearing p r (Read cell) = record { session = afterRead (p .session) (r .vector); seen = r .history ++ p .seen }
-hearing p r (Write cell value time) = record { session = afterWrite (p .session) (r .vector); seen = p .seen }
+hearing p r (Read cell) = record { session = afterRead (p .session) (r .vector); seen = r .history ++ p .seen; wrote = p .wrote }
+hearing p r (Write cell value time) = record { session = afterWrite (p .session) (r .vector); seen = p .seen; wrote = r .wrote ++ p .wrote }
 
 abbrev pub withPhone : Farm → PhoneId → Phone → Farm
 withPhone f i p = record { servers = f .servers; phones = changed (f .phones) (i .0) p; sent = f .sent; ledger = f .ledger }
@@ -206,10 +215,10 @@ module _ (rule : Rule) where
   unfoldable pub serving : Farm → ServerId → Asked → Farm
   serving f j q =
       let e = serve f j q in
-      let r : Replied = record { phone = q .phone; request = q .request; vector = e .vector; history = performedBy f j ++ writes (e .after) } in
+      let a = attempt f j q in
+      let r : Replied = record { phone = q .phone; request = q .request; vector = e .vector; history = performedBy f j ++ writes (e .after); wrote = attempted a } in
       let s = f .sent in
       let t = f .ledger in
-      let a = attempt f j q in
       stepped f j e
       (record { requests = s .requests; replies = ifDone (e .reply) r (s .replies); updates = s .updates })
       (record { performed = also (e .reply) (t .performed) j a; begun = also (e .reply) (t .begun) j a })
@@ -238,7 +247,7 @@ module _ (rule : Rule) where
   act f (tells j out) = telling f j out
   act f (takes k j) = inFlight (getElem? (f .sent .updates) k) f (λ msg. plainly f j (stepAt f j what.Update zeros msg))
   act f (hears k) = inFlight (getElem? (f .sent .replies) k) f (λ r. withPhone f (r .phone) (hearing (f .phones (r .phone .0)) r (r .request)))
-  act f (reinstalls i) = withPhone f i installed
+  act f (reinstalls i c) = withPhone f i (installed c)
 
   -- a run
   unfoldable pub run : Farm → List Act → Farm

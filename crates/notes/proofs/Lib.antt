@@ -10,6 +10,7 @@ pub mod Answers
 pub mod Reading
 pub mod Sessions
 pub mod InPlace
+pub mod InLocal
 pub mod Held
 pub mod Asking
 pub mod Unique

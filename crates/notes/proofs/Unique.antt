@@ -42,15 +42,18 @@ use Rattle.notes.proofs.reader.Reader.next as next
 use Rattle.notes.proofs.reader.Reader.advance as advance
 use Rattle.notes.proofs.reader.Reader.left as left
 use Rattle.notes.proofs.reader.take as take
+use Rattle.notes.proofs.session.choose.Reads as choose
+use Rattle.notes.proofs.session.Choice.number.Reads as choice-number
 use Rattle.notes.proofs.session.Session.new.Reads as new
 use Rattle.notes.proofs.session.Session.read_carries.Reads as read-carries
 use Rattle.notes.proofs.session.Session.write_carries.Reads as write-carries
 use Rattle.notes.proofs.session.Session.after_read.Reads as after-read
 use Rattle.notes.proofs.session.Session.after_write.Reads as after-write
 use Rattle.notes.proofs.session.Session.raise as raise
-use Rattle.notes.proofs.session.Session.keep as keep
+use Rattle.notes.proofs.session.Session.raise_written as raise-written
 use Rattle.notes.proofs.session.Session.carried as carried
 use Rattle.notes.proofs.session.raised_by.Reads as raised-by
+use Rattle.notes.proofs.session.raised_by_write.Reads as raised-by-write
 use Rattle.notes.proofs.number.raw.u16_at.Reads as raw-u16-at
 use Rattle.notes.proofs.number.raw.u32_at.Reads as raw-u32-at
 use Rattle.notes.proofs.number.raw.u64_at.Reads as raw-u64-at
@@ -126,6 +129,12 @@ well-formed-one k a x y s t p q = equal p q
 pub beats-one : One beats.Post (λ k r s. r)
 beats-one k a x y s t p q = equal p q
 
+pub choose-one : One choose.Post (λ k r s. r)
+choose-one k a x y s t p q = equal p q
+
+pub choice-number-one : One choice-number.Post (λ k r s. r)
+choice-number-one k a x y s t p q = equal p q
+
 pub session-new-one : One new.Post (λ k r s. r)
 session-new-one k a x y s t p q = equal p q
 
@@ -143,6 +152,9 @@ after-write-one k a x y s t p q = equal p q
 
 pub raised-by-one : One raised-by.Post (λ k r s. r)
 raised-by-one k a x y s t p q = equal p q
+
+pub raised-by-write-one : One raised-by-write.Post (λ k r s. r)
+raised-by-write-one k a x y s t p q = equal p q
 
 pub read-at-one : One read-at.Post (λ k r s. r)
 read-at-one k a x y s t p q = equal p q
@@ -182,8 +194,8 @@ Reading T e = (k : Lfts (T .signature .lifetimes)) (a : ArgsD (T .signature) k) 
 abbrev raise-reads : Reading raise.ended (λ k a r s w. raise.clauses (w .𝓤) (w .H) (w .𝓖 .A) (w .𝓜 .mem) (w .𝓡 .run) k a .ensures tt r s)
 raise-reads k a r s = all-models _ (λ w. r-last _) (λ w. refl) (λ w. refl) (λ w. refl)
 
-abbrev keep-reads : Reading keep.ended (λ k a r s w. keep.clauses (w .𝓤) (w .H) (w .𝓖 .A) (w .𝓜 .mem) (w .𝓡 .run) k a .ensures tt r s)
-keep-reads k a r s = all-models _ (λ w. r-last _) (λ w. refl) (λ w. refl) (λ w. refl)
+abbrev raise-written-reads : Reading raise-written.ended (λ k a r s w. raise-written.clauses (w .𝓤) (w .H) (w .𝓖 .A) (w .𝓜 .mem) (w .𝓡 .run) k a .ensures tt r s)
+raise-written-reads k a r s = all-models _ (λ w. r-last _) (λ w. refl) (λ w. refl) (λ w. refl)
 
 abbrev carried-reads : Reading carried.ended (λ k a r s w. carried.clauses (w .𝓤) (w .H) (w .𝓖 .A) (w .𝓜 .mem) (w .𝓡 .run) k a .ensures tt r s)
 carried-reads k a r s = all-models _ (λ w. r-last _) (λ w. refl) (λ w. refl) (λ w. refl)
@@ -225,8 +237,8 @@ take-one k a x y s t p q =
 pub raise-one : One (λ k a r s. AllOf (raise-reads k a r s .owes)) (λ k r s. now (s .0))
 raise-one k a x y s t p q = equal p q
 
-pub keep-one : One (λ k a r s. AllOf (keep-reads k a r s .owes)) (λ k r s. now (s .0))
-keep-one k a x y s t p q = equal p q
+pub raise-written-one : One (λ k a r s. AllOf (raise-written-reads k a r s .owes)) (λ k r s. now (s .0))
+raise-written-one k a x y s t p q = equal p q
 
 pub carried-one : One (λ k a r s. AllOf (carried-reads k a r s .owes)) (λ k r s. r)
 carried-one k a x y s t p q = equal p q

@@ -5,6 +5,6 @@ pub mod Reply
 pub mod Index
 pub mod Vector
 pub mod Record
-pub mod Session
 pub mod Message
+pub mod Session
 pub mod Forms

@@ -1,4 +1,4 @@
--- Demand 3 excludes wrong servers, each by the clause that it breaks in a run of its own.
+-- Demand 3 and the sentence on own writes exclude wrong servers, each by the clause that it breaks in a run of its own; and the right server breaks a sentence that claims too much.
 -- Assumes nothing.
 use Prim.Native.Nat.{ℕ, _≤_, _<_}
 use mathlib.Core.Bool.{Bool, true, false, not, _&&_, true≢false}
@@ -10,15 +10,17 @@ use lib.Dec.{T, eqb}
 use lib.ListN.{length}
 use Rattle.notes.specs.Index.{servers}
 use Rattle.notes.proofs.Lists.{both}
+use Rattle.notes.specs.declared.session.Choice.the-variants.{Reads, Writes}
 use Rattle.rules.specs.Writes.{server, writesOf}
 use Rattle.rules.specs.Memory.{writes}
 use Rattle.rules.specs.Image.{checkpoint, log}
 use Rattle.rules.specs.Sound.{later, sound}
-use Rattle.farm.specs.Farm.{Record, Rule, Attempt, Farm, performedBy, attempted, Act, serves, cutServing, cuts, takes, hears, isDone, serve, serving, recover, recovering, act, run}
-use Rattle.farm.specs.Demand.{_∈_, AllSound, Recovered, Recovery, OwnStay, ReadsStay, Excluded}
+use Rattle.rules.specs.Step.{step}
+use Rattle.farm.specs.Farm.{Choice, Record, Rule, Asked, Attempt, Farm, performedBy, attempted, Act, serves, cutServing, cuts, takes, hears, isDone, serve, serving, recover, recovering, act, run}
+use Rattle.farm.specs.Demand.{_∈_, AllSound, Recovered, Recovery, OwnStay, Finds, staysRead, ReadsStay, findsOwn, OwnFound, Excluded}
 use Rattle.refused.specs.Wrong.{logsNothing, onlyReplies, logsTheFirst, takesTheWholeT, restoresNothing, dropsTheLast, replaysAll, countsFirst, clearsTheLogFirst, servesAlways}
 use Rattle.farm.proofs.Prefix.{keep-mem}
-use Rattle.farm.proofs.Acted.{acted, new, other, writes5, reads5, asked5, tell, comesBack, acts8}
+use Rattle.farm.proofs.Acted.{acted, new, other, writes5, reads5, asked5, tell, comesBack, acts8, saved, read6}
 use Rattle.farm.proofs.Worked.{true-of, false-of, lent, reached, reached-asking, asks-last, asks-a-read}
 
 -- an empty list
@@ -112,25 +114,26 @@ module _ (rule : Rule) (n : ℕ) (few : n ≤ servers) (acts : List Act) where
       let k = keep-mem _ (performedBy f (server 0)) m in
       none-in _ (eqb-true _ 0 (c .1)) (h more (server 0) low (b .0) (b .1) w (eqb-true (w .origin .0) 0 (k .1)) (k .0)))))
 
-  -- phone 5 asks, and is served where no write is held, though its session has seen one
-  unread :
-      (j : ℕ)
+  -- phone 5 asks, and is served where no write is held, though it must find one
+  unfound :
+      (chosen : Choice → Bool) (these : Asked → List Record) (j : ℕ)
       → (let g = f in
       let q = asked5 g in
       let asked = act rule g reads5 in
-      T (isDone (serve rule asked (server j) q .reply) && eqb (length (performedBy (serving rule asked (server j) q) (server j))) 0 && not (eqb (length (q .seen)) 0)))
-      → Excluded rule ReadsStay
-  unread j t =
-      let b = both _ _ (true-of _ t) in
+      T (isDone (serve rule asked (server j) q .reply) && chosen (q .choice) && eqb (length (performedBy (serving rule asked (server j) q) (server j))) 0 && not (eqb (length (these q)) 0)))
+      → Excluded rule (Finds chosen these)
+  unfound chosen these j t =
+      let d = both _ _ (true-of _ t) in
+      let b = both _ _ (d .0) in
       let a = both _ _ (b .0) in
       record {
         n = n;
         farm = act rule f reads5;
         reached = reached-asking rule n few acts;
         fails = λ h.
-            eqb-false _ _ (not-true _ (b .1))
-            (none-seen (asked5 f .seen)
-            (λ w m. none-in _ (eqb-true _ 0 (a .1)) (h (asked5 f) 300 (server j) (asks-last rule f) (asks-a-read f) (eqb-true _ 0 (a .0)) w m)));
+            eqb-false _ _ (not-true _ (d .1))
+            (none-seen (these (asked5 f))
+            (λ w m. none-in _ (eqb-true _ 0 (b .1)) (h (asked5 f) 300 (server j) (asks-last rule f) (asks-a-read f) (a .1) (eqb-true _ 0 (a .0)) w m)));
       }
 
 -- ---- every step is done, and leaves a server that is not sound
@@ -205,9 +208,24 @@ loses-what-came-back =
     (omega arith)
     tt
 
--- ---- a read is served at a server that lacks the write that the phone has read at another
+-- ---- a read is served at a server that lacks the write that the phone has read, or written, at another
 
 pub serves-always : Excluded servesAlways ReadsStay
 unfolding acted servesAlways
 serves-always =
-    unread servesAlways 2 (omega arith) (writes5 7 ∷ serves 0 (server 1) ∷ reads5 ∷ serves 0 (server 1) ∷ hears 0 ∷ []) 0 tt
+    unfound servesAlways 2 (omega arith) (writes5 7 ∷ serves 0 (server 1) ∷ reads5 ∷ serves 0 (server 1) ∷ hears 0 ∷ []) staysRead (λ q. q .seen) 0 tt
+
+pub serves-always-own : Excluded servesAlways OwnFound
+unfolding acted servesAlways
+serves-always-own = unfound servesAlways 2 (omega arith) (saved Writes) findsOwn (λ q. q .wrote) 1 tt
+
+-- ---- and of the right server: what a session did not choose is not claimed, since it is not so. Under 2 a read may miss what was read,
+-- under 1 what was written
+
+pub not-under-two : Excluded step (Finds (λ c. true) (λ q. q .seen))
+unfolding acted
+not-under-two = unfound step 2 (omega arith) (read6 Writes) (λ c. true) (λ q. q .seen) 0 tt
+
+pub not-under-one : Excluded step (Finds (λ c. true) (λ q. q .wrote))
+unfolding acted
+not-under-one = unfound step 2 (omega arith) (saved Reads) (λ c. true) (λ q. q .wrote) 1 tt

@@ -1,4 +1,4 @@
--- A state written into its block is read back as the same state, and a right block written again has the same bytes.
+-- A state written into its block is read back as the same state, and a right block written again has the same bytes; and so for a session.
 -- Assumes nothing.
 use Prim.Native.Nat.{ℕ, zero, suc, _+_, _*_, _<_, _≤_}
 use mathlib.Core.Bool.{Bool, true, false, cond}
@@ -13,12 +13,19 @@ use Rattle.notes.specs.Bytes.{field, fromBytes, toBytes, pieces}
 use Rattle.notes.specs.Index.{servers, phones}
 use Rattle.notes.specs.Vector.{vector, countSize, countsIn, countBytes, vectorFrom, vectorBytes}
 use Rattle.notes.specs.declared.vector.Vector.{Vector}
+use Rattle.notes.specs.Session.{choiceNumber, choose}
+use Rattle.notes.specs.declared.session.Choice.{Choice}
+use Rattle.notes.specs.declared.session.Chosen.the-variants.{As}
+use Rattle.notes.specs.declared.session.Session.{Session}
 use Rattle.notes.proofs.Lists.{both, part-join, parts-join}
 use Rattle.notes.proofs.Numbers.{AllBelow, below-take, below-drop, one-byte, from-to, to-from, length-toBytes, part-back, byte-join}
+use Rattle.notes.proofs.Sessions.{Eight, choose-number, number-chosen}
 use Rattle.notes.proofs.Vectors.{length-countsIn, length-vectorBytes, length-vectorFrom}
 use Rattle.rules.specs.declared.state.State.{State}
-use Rattle.ssaldorip.specs.Calls.{blockSize, upField, spareField, vectorAt, crField, rwAt, blockOk, stateIn, stateOf, blockOf, onto}
+use Rattle.ssaldorip.specs.Calls.{vectorSize, blockSize, upField, spareField, vectorAt, crField, rwAt, blockOk, stateIn, stateOf, blockOf, onto}
+use Rattle.ssaldorip.specs.Sessions.{writesAt, choiceField, sessionSize, sessionIn, sessionBytes}
 use Rattle.ssaldorip.proofs.Stored.{length-blockOf}
+use Rattle.ssaldorip.proofs.Raised.{length-sessionBytes, in-eight}
 
 -- each number fits its bytes
 pub record FitsBlock (s : State) : Type 0 where
@@ -170,3 +177,62 @@ module _ (b : List ℕ) (h : AllBelow 256 b) (room : blockSize ≤ length b) (ok
   pub block-again : onto (blockOf (stateOf b)) b ≡ b
   unfolding stateOf stateIn
   block-again = rw (ok, length-blockOf (stateIn b) (length-vectorFrom (drop vectorAt b)) (length-countsIn phones (drop rwAt b))) in-again
+
+-- ---- a session and its bytes
+
+pub record FitsSession (s : Session) : Type 0 where
+  pub eight : Eight s
+  pub reads : AllBelow 65536 (s .reads .counts)
+  pub writes : AllBelow 65536 (s .writes .counts)
+
+module _ (s : Session) (h : FitsSession s) (r : List ℕ) where
+  abbrev bytes : List ℕ
+  bytes = sessionBytes s ++ r
+
+  abbrev from-choice : List ℕ
+  from-choice = choiceNumber (s .choice) ∷ r
+
+  from-reads : bytes ≡ vectorBytes (s .reads) ++ (vectorBytes (s .writes) ++ from-choice)
+  from-reads = simp append-assoc
+
+  from-writes : drop writesAt bytes ≡ vectorBytes (s .writes) ++ from-choice
+  from-writes = rw from-reads (drop-at (vectorBytes (s .reads)) (vectorBytes (s .writes) ++ from-choice) writesAt (length-vectorBytes (s .reads) (h .eight .reads)))
+
+  last : drop (choiceField .at) bytes ≡ from-choice
+  last =
+      sym (drop-drop vectorSize writesAt bytes)
+      ∙ rw from-writes (drop-at (vectorBytes (s .writes)) from-choice vectorSize (length-vectorBytes (s .writes) (h .eight .writes)))
+
+  choice-back : choose (field choiceField bytes) ≡ As (s .choice)
+  choice-back = rw last (ap choose (one-byte (choiceNumber (s .choice))) ∙ choose-number (s .choice))
+
+  vectors-back : sessionIn (s .choice) bytes ≡ s
+  vectors-back = λ i. record {
+    choice = s .choice;
+    reads = (ap vectorFrom from-reads ∙ vector-back (s .reads) (vectorBytes (s .writes) ++ from-choice) (h .eight .reads) (h .reads)) i;
+    writes = (ap vectorFrom from-writes ∙ vector-back (s .writes) from-choice (h .eight .writes) (h .writes)) i;
+  }
+
+pub session-back :
+    (s : Session) (b : List ℕ)
+    → FitsSession s
+    → let z = onto (sessionBytes s) b in (choose (field choiceField z) ≡ As (s .choice)) × (sessionIn (s .choice) z ≡ s)
+session-back s b h =
+    let r = drop (length (sessionBytes s)) b in
+    (choice-back s h r, vectors-back s h r)
+
+pub session-again :
+    (c : Choice) (b : List ℕ)
+    → AllBelow 256 b
+    → sessionSize ≤ length b
+    → choose (field choiceField b) ≡ As c
+    → onto (sessionBytes (sessionIn c b)) b ≡ b
+unfolding vectorFrom vectorBytes
+session-again c b h room e =
+    let reads : vectorBytes (vectorFrom b) ≡ take vectorSize b = counts-again servers b (omega arith) h in
+    let writes : vectorBytes (vectorFrom (drop writesAt b)) ≡ take vectorSize (drop writesAt b) = counts-again servers (drop writesAt b) (simp length-drop (omega arith)) (below-drop writesAt b h) in
+    let l = length-sessionBytes (sessionIn c b) (in-eight c b) in
+    rw (l, reads, writes, number-chosen (field choiceField b) c e)
+    (append-assoc (take vectorSize b ++ take vectorSize (drop writesAt b)) (field choiceField b ∷ []) (drop sessionSize b)
+    ∙ ap (λ (r : List ℕ). take vectorSize b ++ take vectorSize (drop writesAt b) ++ r) (byte-join (choiceField .at) b (omega arith))
+    ∙ two-join [] vectorSize vectorSize 0 b)

@@ -1,5 +1,6 @@
 -- The files of laws and theorems, beside the proofs of functions.
 pub mod Stored
+pub mod Raised
 pub mod Back
 pub mod Called
 pub mod Requested

@@ -1,4 +1,4 @@
--- What the calls without a state answer: a place or a number, and a session's bytes raised.
+-- What the calls without a state answer: a place or a number.
 -- Assumes nothing.
 use Prim.Native.Nat.{ℕ, _≤_, _<_}
 use mathlib.Core.List.{List, [], _∷_, _++_}
@@ -8,22 +8,17 @@ use mathlib.Core.Path.{_≡_, refl, sym, ap}
 use native.Mathlib.Omega.{arith}
 use borrow.Author.Tests.{lt-ltb, le-ltb}
 use lib.ListN.{length, getD, take, drop}
-use lib.Seq.{sets, take-all}
+use lib.Seq.{take-all}
 use Rattle.notes.specs.Reply.{Reply, done, orElse}
-use Rattle.notes.specs.Vector.{vectorFrom, vectorBytes}
 use Rattle.notes.specs.Record.{recordSize, encode}
 use Rattle.notes.specs.Message.{readAt, placeAfter}
-use Rattle.notes.specs.Session.{afterRead}
 use Rattle.notes.specs.declared.index.ServerId.{ServerId}
-use Rattle.notes.proofs.Lists.{sets-front}
-use Rattle.notes.proofs.Vectors.{length-vectorBytes, length-vectorFrom}
-use Rattle.notes.proofs.Sessions.{read-eight}
 use Rattle.rules.specs.declared.answer.Refusal.{Refusal}
 use Rattle.rules.specs.Image.{imageSize, checkpointAt, checkpointCount, logCount, checkpointPlace, logPlace, checkpointArea, logArea, checkpoint, log}
 use Rattle.rules.specs.Calls.{placeOf, standsAt, lookUpRefusal, replyUnless}
 use Rattle.calls.specs.Place.{placeReply}
 use Rattle.calls.proofs.LookUp.{Accepted, accepted, place-among}
-use Rattle.ssaldorip.specs.Calls.{vectorSize, left, placeOrNumber, next, sessionIn, raise}
+use Rattle.ssaldorip.specs.Calls.{left, placeOrNumber, next}
 
 -- ---- a look-up
 
@@ -104,25 +99,3 @@ module _ (m : List ℕ) (at : ℕ) (out : List ℕ) where
     unfolding next
     next-found e b after wrote copied =
         rw (le-ltb (length out) recordSize room, e, ← wrote, copied, take-all (length b) b (omega arith))
-
--- ---- a session
-module _ (s v : List ℕ) where
-  pub raise-short : length s < vectorSize → raise s v ≡ left 9 s
-  unfolding raise
-  raise-short h = rw (lt-ltb (length s) vectorSize h)
-
-  module _ (long : vectorSize ≤ length s) where
-    pub raise-by-short : length v < vectorSize → raise s v ≡ left 9 s
-    unfolding raise
-    raise-by-short h = rw (le-ltb (length s) vectorSize long, lt-ltb (length v) vectorSize h)
-
-    pub raise-done : vectorSize ≤ length v → raise s v ≡ left 0 (sets s 0 (vectorBytes (afterRead (sessionIn s) (vectorFrom v) .reads)))
-    unfolding raise
-    raise-done h =
-        let m = afterRead (sessionIn s) (vectorFrom v) .reads in
-        let l = length-vectorBytes m (read-eight (sessionIn s) (vectorFrom v) (length-vectorFrom s) (length-vectorFrom v)) in
-        rw (
-          le-ltb (length s) vectorSize long,
-          le-ltb (length v) vectorSize h,
-          sets-front (vectorBytes m) s (length (vectorBytes m)) refl (omega arith),
-        )

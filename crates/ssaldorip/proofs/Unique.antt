@@ -11,7 +11,10 @@ use Rattle.ssaldorip.proofs.messages.ssaldorip_message_check.Reads as m
 use Rattle.ssaldorip.proofs.messages.ssaldorip_message_write.Reads as message-write
 use Rattle.ssaldorip.proofs.messages.ssaldorip_message_first.Reads as message-first
 use Rattle.ssaldorip.proofs.messages.ssaldorip_message_next.Reads as message-next
-use Rattle.ssaldorip.proofs.messages.ssaldorip_session_raise.Reads as session-raise
+use Rattle.ssaldorip.proofs.sessions.ssaldorip_session_start.Reads as session-start
+use Rattle.ssaldorip.proofs.sessions.ssaldorip_session_raise.Reads as session-raise
+use Rattle.ssaldorip.proofs.sessions.ssaldorip_session_raise_written.Reads as session-raise-written
+use Rattle.ssaldorip.proofs.sessions.ssaldorip_session_asks.Reads as session-asks
 use Rattle.ssaldorip.proofs.beside.ssaldorip_judge.Reads as judge
 use Rattle.ssaldorip.proofs.beside.ssaldorip_start.Reads as start
 use Rattle.ssaldorip.proofs.beside.ssaldorip_status.Reads as status
@@ -50,8 +53,18 @@ pub ssaldorip-message-next-one : One {O = ℕ × List ℕ} message-next.Post (λ
 ssaldorip-message-next-one k a x y s t p q = p ∙ sym q
 
 -- with each byte of the session
+pub ssaldorip-session-start-one : One {O = ℕ × List ℕ} session-start.Post (λ k r s. (r, now (s .1 .0)))
+ssaldorip-session-start-one k a x y s t p q = p ∙ sym q
+
 pub ssaldorip-session-raise-one : One {O = ℕ × List ℕ} session-raise.Post (λ k r s. (r, now (s .0)))
 ssaldorip-session-raise-one k a x y s t p q = p ∙ sym q
+
+pub ssaldorip-session-raise-written-one : One {O = ℕ × List ℕ} session-raise-written.Post (λ k r s. (r, now (s .0)))
+ssaldorip-session-raise-written-one k a x y s t p q = p ∙ sym q
+
+-- with each byte of the output
+pub ssaldorip-session-asks-one : One {O = ℕ × List ℕ} session-asks.Post (λ k r s. (r, now (s .1 .0)))
+ssaldorip-session-asks-one k a x y s t p q = p ∙ sym q
 
 -- ---- reports: with each byte of the output
 pub ssaldorip-status-one : One {O = ℕ × List ℕ} status.Post (λ k r s. (r, now (s .1 .1 .1 .0)))

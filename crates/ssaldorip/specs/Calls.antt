@@ -12,8 +12,6 @@ use Rattle.notes.specs.Vector.{countSize, countsIn, countBytes, vectorFrom, vec
 use Rattle.notes.specs.declared.vector.Vector.{Vector}
 use Rattle.notes.specs.Record.{recordSize, encode}
 use Rattle.notes.specs.Message.{readAt, placeAfter}
-use Rattle.notes.specs.Session.{afterRead}
-use Rattle.notes.specs.declared.session.Session.{Session}
 use Rattle.notes.specs.Reply.{Reply, Filled}
 use Rattle.rules.specs.Memory.{blank, Memory, memory}
 use Rattle.rules.specs.declared.state.State.{State}
@@ -27,7 +25,7 @@ use Rattle.rules.specs.Calls.{judge, status, message}
 
 -- it grows whenever a signature, a size or what a call returns changes
 abbrev pub version : ℕ
-version = 1
+version = 2
 
 -- ---- a state in its block
 
@@ -200,12 +198,3 @@ next m at out =
     let x = readAt m at in
     cond (ltb (length out) recordSize) (left 9 out)
     (cond (x .found) (left (placeAfter m at) (onto (encode (x .write)) out)) (left 0 out))
-
--- a session in its bytes, raised there by a read's reply
-abbrev pub sessionIn : List ℕ → Session
-sessionIn s = record { reads = vectorFrom s }
-
-unfoldable pub raise : List ℕ → List ℕ → ℕ × List ℕ
-raise s v =
-    cond (ltb (length s) vectorSize || ltb (length v) vectorSize) (left 9 s)
-    (left 0 (onto (vectorBytes (afterRead (sessionIn s) (vectorFrom v) .reads)) s))

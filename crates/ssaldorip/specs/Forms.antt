@@ -1,7 +1,7 @@
--- A state's block and a request's reply in the forms that their parts need. No public call is stated by these.
+-- A state's block, a request's reply and a session's in the forms that their parts need. No public call is stated by these.
 -- Assumes nothing.
 use Prim.Native.Nat.{ℕ}
-use mathlib.Core.Bool.{cond}
+use mathlib.Core.Bool.{Bool, true, false, cond}
 use mathlib.Core.List.{List, [], _∷_, _++_}
 use lib.Dec.{eqb}
 use lib.ListN.{set, replicate}
@@ -9,6 +9,8 @@ use lib.Seq.{sets}
 use Rattle.notes.specs.Bytes.{toBytes}
 use Rattle.notes.specs.Vector.{vectorBytes}
 use Rattle.notes.specs.declared.vector.Vector.{Vector}
+use Rattle.notes.specs.Session.{afterRead, afterWrite}
+use Rattle.notes.specs.declared.session.Session.{Session}
 use Rattle.rules.specs.Answer.{Effect}
 use Rattle.rules.specs.declared.answer.Answer.{Answer}
 use Rattle.rules.specs.declared.answer.Answer.the-variants as answer
@@ -45,3 +47,8 @@ answerBytes (answer.Refused k) v = []
 -- what is told where a reply has no room
 abbrev pub orShort : Effect → ℕ
 orShort e = cond (eqb (e .reply .number) 0) 9 (e .reply .number)
+
+-- the session after a reply, to a write or to a read
+abbrev pub heardAs : Bool → Session → Vector → Session
+heardAs true = afterWrite
+heardAs false = afterRead

@@ -3,5 +3,6 @@ pub mod beside;
 mod block;
 pub mod messages;
 pub mod serve;
+pub mod sessions;
 pub mod steps;
 pub mod version;

@@ -1,8 +1,8 @@
-// The calls that need no server, for the phone app: update messages and the session.
+// The calls on update messages, for the phone app: they need no server.
 ghost use mathlib.Core.Path.{_≡_};
 ghost use Rattle.notes.specs.Message.{refusalNumber, check as checkOf, write as writeOf, firstPlace};
 ghost use Rattle.rules.specs.Writes.{server};
-ghost use Rattle.ssaldorip.specs.Calls.{left, answered, next, raise};
+ghost use Rattle.ssaldorip.specs.Calls.{left, answered, next};
 use crate::steps::TOO_SHORT;
 use notes::index::ServerId;
 use notes::message;
@@ -11,13 +11,9 @@ use notes::message::Refusal;
 use notes::message::Written;
 use notes::reader;
 use notes::record::Record;
-use notes::session::Session;
-use notes::session::raised_by;
-use notes::vector;
-use notes::vector::Vector;
 
 // A refusal of `notes` in document 01's numbers.
-fn number(k: Refusal) -> u32
+pub(crate) fn number(k: Refusal) -> u32
     ensures { λ r. ⌜ r ≡ refusalNumber k ⌝ }
 {
     match k {
@@ -77,23 +73,4 @@ pub extern "C" fn ssaldorip_message_next(message: &[u8], at: usize, record: &mut
     let bytes = write.to_bytes();
     bytes::copy(&bytes, record);
     reader::place_after(message, at)
-}
-
-// The session in its bytes raised by a read's reply, there: 9 where one of the two is too short.
-#[no_mangle]
-pub extern "C" fn ssaldorip_session_raise(session: &mut [u8], reply_vector: &[u8]) -> u32
-    ensures { λ r. ⌜ left r (now (session .exit)) ≡ raise (now (session .entry)) (now («reply_vector» .entry)) ⌝ }
-{
-    if session.len() < Vector::SIZE {
-        return TOO_SHORT;
-    }
-    if reply_vector.len() < Vector::SIZE {
-        return TOO_SHORT;
-    }
-    let before = Session {
-        reads: vector::raw::vector_at(session, 0),
-    };
-    let after = raised_by(before, vector::raw::vector_at(reply_vector, 0));
-    vector::raw::put_vector(session, 0, after.reads);
-    0
 }

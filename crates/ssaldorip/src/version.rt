@@ -2,7 +2,7 @@
 ghost use mathlib.Core.Path.{_≡_};
 ghost use Rattle.ssaldorip.specs.Calls.{version};
 
-const VERSION: u32 = 1;
+const VERSION: u32 = 2;
 
 // The version of this library, for a program to hold to its own before its first other call.
 #[no_mangle]

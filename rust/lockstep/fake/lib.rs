@@ -94,4 +94,7 @@ export!(ssaldorip_message_check(given) -> u32: Call::MessageCheck);
 export!(ssaldorip_message_write(n: u8, sender: u8, given, mut out) -> u32: Call::MessageWrite { n, sender });
 export!(ssaldorip_message_first(given) -> usize: Call::MessageFirst);
 export!(ssaldorip_message_next(given, at: usize, mut out) -> usize: Call::MessageNext { at });
+export!(ssaldorip_session_start(choice: u8, mut out) -> u32: Call::SessionStart { choice });
 export!(ssaldorip_session_raise(mut out, given) -> u32: Call::SessionRaise);
+export!(ssaldorip_session_raise_written(mut out, given) -> u32: Call::SessionRaiseWritten);
+export!(ssaldorip_session_asks(given, mut out) -> u32: Call::SessionAsks);

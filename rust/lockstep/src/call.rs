@@ -47,5 +47,8 @@ calls! {
     MessageWrite { n: u8, sender: u8 },
     MessageFirst,
     MessageNext { at: usize },
+    SessionStart { choice: u8 },
     SessionRaise,
+    SessionRaiseWritten,
+    SessionAsks,
 }

@@ -47,8 +47,7 @@ impl Lent {
     }
 }
 
-/// The buffers of any call. `given` is the one lent to be read (asked vector, message,
-/// records, reply vector), `out` the one lent to be changed (reply, output, record, session).
+/// The buffers of any call, `given` and `out` as `model::run` takes them.
 #[derive(Clone, Default)]
 pub struct Lents {
     pub state: Lent,
@@ -69,8 +68,8 @@ impl Lents {
             ("state", &self.state),
             ("history", &self.history),
             ("image", &self.image),
-            ("asked, message, records or reply vector", &self.given),
-            ("reply, output, record or session", &self.out),
+            ("asked, message, records, reply vector or session that asks", &self.given),
+            ("reply, output, record, session or what it asks for", &self.out),
         ]
     }
 }

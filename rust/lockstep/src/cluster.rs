@@ -1,13 +1,14 @@
 //! Random clusters of servers, phones and sessions. Every call is compared with the model;
-//! demand 3 is checked on what the library itself replied and keeps.
+//! demand 3, and that a phone finds its own writes, are checked on what the library itself
+//! replied and keeps.
 
 use crate::call::Call;
 use crate::case::{compare, Failure, Lent, Lents};
 use crate::hostile;
 use crate::library::Library;
-use crate::model::{self, Header, Record, State};
+use crate::model::{self, Header, Record, Session, State};
 use crate::random::Random;
-use crate::tally::Tally;
+use crate::tally::{Met, Tally};
 use std::collections::{HashMap, HashSet};
 
 type RecordBytes = [u8; Record::LENGTH];
@@ -78,8 +79,17 @@ impl Writes {
         }
     }
 
-    fn within(&self, other: &Writes) -> bool {
-        self.0.iter().enumerate().all(|(i, mine)| mine & !other.0.get(i).copied().unwrap_or(0) == 0)
+    /// How much of this set is in the other.
+    fn met_in(&self, other: &Writes) -> Met {
+        if self.0.is_empty() {
+            return Met::Nothing;
+        }
+        let within = self.0.iter().enumerate().all(|(i, mine)| mine & !other.0.get(i).copied().unwrap_or(0) == 0);
+        if within {
+            Met::All
+        } else {
+            Met::NotAll
+        }
     }
 }
 
@@ -96,8 +106,17 @@ struct Phone {
     /// How often the app was installed again.
     installed: u32,
     session: Lent,
-    /// The writes in the histories of the read replies that the session received.
+    known: Known,
+}
+
+/// What is known of a session beside its bytes.
+#[derive(Clone, Default)]
+struct Known {
+    choice: u8,
+    /// The writes in the histories of the read replies that it received.
     seen: Writes,
+    /// The writes whose own replies it received.
+    wrote: Writes,
 }
 
 #[derive(Clone, Copy)]
@@ -115,17 +134,20 @@ struct Request {
     cell: u16,
     wanted: Wanted,
     asked: Vec<u8>,
-    /// The session's writes when it asked.
-    seen: Writes,
+    /// The session when it asked.
+    known: Known,
 }
 
-/// A read's reply on its way.
+/// A reply on its way.
 #[derive(Clone)]
 struct Reply {
     phone: usize,
     installed: u32,
+    /// Whether it is a write's.
+    written: bool,
     v: Vec<u8>,
-    history: Writes,
+    /// A read's: those in the serving server's history. A write's: itself.
+    writes: Writes,
 }
 
 /// Weights of what happens next.
@@ -239,8 +261,8 @@ impl<'a, 'b> Cluster<'a, 'b> {
             .map(|i| Phone {
                 number: if profile.phones == 64 { i as u8 } else { (i * 21) as u8 },
                 installed: 0,
-                session: Lent::new(&mut r, &[0; model::VECTOR], model::VECTOR),
-                seen: Writes::default(),
+                session: Lent::default(),
+                known: Known::default(),
             })
             .collect();
         let late_replies_raise = r.one_in(2);
@@ -275,6 +297,9 @@ impl<'a, 'b> Cluster<'a, 'b> {
                 return failed("start is refused".to_string());
             }
             cluster.servers.push(Server { memory, performed: Vec::new(), logged: HashSet::new() });
+        }
+        for phone in 0..cluster.phones.len() {
+            cluster.install(phone)?;
         }
         Ok(cluster)
     }
@@ -319,7 +344,7 @@ impl<'a, 'b> Cluster<'a, 'b> {
                 8 => self.judge_and_status()?,
                 9 => self.look_up()?,
                 10 => self.wrong()?,
-                11 => self.reinstall(),
+                11 => self.reinstall()?,
                 12 => self.sweep()?,
                 _ => self.probe()?,
             }
@@ -348,9 +373,18 @@ impl<'a, 'b> Cluster<'a, 'b> {
         State::parse(self.servers[server].memory.state.bytes())
     }
 
-    fn writes_of(&mut self, server: usize) -> Writes {
+    /// A call on a session, which is not refused. What it leaves in `out`.
+    fn on_session(&mut self, call: Call, given: Lent, out: Lent) -> Result<Lent, Failure> {
+        let mut lents = Lents { given, out, ..Lents::default() };
+        match self.run.call(call, &mut lents)? {
+            0 => Ok(lents.out),
+            refusal => failed(format!("{call:?} is refused with {refusal}")),
+        }
+    }
+
+    fn writes(&mut self, records: &[RecordBytes]) -> Writes {
         let mut writes = Writes::default();
-        for record in history_of(&self.servers[server].memory) {
+        for &record in records {
             let next = self.names.len();
             writes.add(*self.names.entry(record).or_insert(next));
         }
@@ -363,7 +397,7 @@ impl<'a, 'b> Cluster<'a, 'b> {
         let phone = self.r.below(self.phones.len());
         let wanted = if write { Wanted::Write { value: self.r.u32(), time: self.r.u32() } } else { Wanted::Read };
         let asked = match wanted {
-            Wanted::Read => self.phones[phone].session.bytes().to_vec(),
+            Wanted::Read => self.asked_by(phone)?,
             Wanted::Write { .. } => vec![0; model::VECTOR],
         };
         let request = Request {
@@ -373,7 +407,7 @@ impl<'a, 'b> Cluster<'a, 'b> {
             cell: self.r.below(self.cells) as u16,
             wanted,
             asked,
-            seen: self.phones[phone].seen.clone(),
+            known: self.phones[phone].known.clone(),
         };
         if self.r.one_in(5) {
             self.requests.push(request.clone());
@@ -386,6 +420,14 @@ impl<'a, 'b> Cluster<'a, 'b> {
             }
         }
         self.serve(&request)
+    }
+
+    /// What the phone's next read carries.
+    fn asked_by(&mut self, phone: usize) -> Result<Vec<u8>, Failure> {
+        let length = model::VECTOR + self.r.pick(&[0, 0, 1, 3]);
+        let out = Lent::new(&mut self.r, &[], length);
+        let asked = self.on_session(Call::SessionAsks, self.phones[phone].session.clone(), out)?;
+        Ok(asked.bytes()[..model::VECTOR].to_vec())
     }
 
     fn late_request(&mut self) -> Result<(), Failure> {
@@ -404,7 +446,10 @@ impl<'a, 'b> Cluster<'a, 'b> {
         match (request.wanted, cut) {
             (Wanted::Write { value, time }, false) => {
                 let call = Call::Write { server: own, phone: number, cell: request.cell, value, time };
-                self.write(request.server, call, &request.asked)?;
+                if let Some(performed) = self.write(request.server, call, &request.asked)? {
+                    let writes = self.writes(&[performed]);
+                    self.reply(request, true, performed[12..].to_vec(), writes)?;
+                }
             }
             (Wanted::Write { value, time }, true) => {
                 let stores = self.r.pick(&[0, 1, 27, 28, 29, 29, 30]);
@@ -435,20 +480,32 @@ impl<'a, 'b> Cluster<'a, 'b> {
         Ok(())
     }
 
-    /// Demand 3: every write of the replies that the session received before asking is in
-    /// the serving server's history.
+    /// Demand 3: every write of the read replies that the session received before asking is in
+    /// the serving server's history, but under choice 2. Own writes: so is, but under choice 1,
+    /// every write whose own reply the session received before asking.
     fn read_served(&mut self, request: &Request, reply: &[u8]) -> Result<(), Failure> {
-        let history = self.writes_of(request.server);
-        if !request.seen.within(&history) {
-            return failed(format!("demand 3: server {} served a read and misses a write", request.server));
+        let (server, Known { choice, seen, wrote }) = (request.server, &request.known);
+        let history = history_of(&self.servers[server].memory);
+        let writes = self.writes(&history);
+        let (seen, wrote) = (seen.met_in(&writes), wrote.met_in(&writes));
+        if *choice != 2 && seen == Met::NotAll {
+            return failed(format!("demand 3: server {server} served a read and misses a write"));
         }
+        if *choice != 1 && wrote == Met::NotAll {
+            return failed(format!("own writes: server {server} served a read and misses a write of the phone's"));
+        }
+        *self.run.tally.served.entry((*choice, seen, wrote)).or_default() += 1;
         let v = reply[5..].to_vec();
-        let records: Vec<Record> =
-            history_of(&self.servers[request.server].memory).iter().map(|r| Record::parse(r)).collect();
+        let records: Vec<Record> = history.iter().map(|r| Record::parse(r)).collect();
         if model::vector(&v) != model::counts(&records, self.n) {
-            return failed(format!("server {}: the reply's vector is not its history's counts", request.server));
+            return failed(format!("server {server}: the reply's vector is not its history's counts"));
         }
-        let reply = Reply { phone: request.phone, installed: request.installed, v, history };
+        self.reply(request, false, v, writes)
+    }
+
+    /// Sends a reply: it may be late, lost or repeated.
+    fn reply(&mut self, request: &Request, written: bool, v: Vec<u8>, writes: Writes) -> Result<(), Failure> {
+        let reply = Reply { phone: request.phone, installed: request.installed, written, v, writes };
         if self.r.one_in(5) {
             self.replies.push(reply.clone());
             if self.replies.len() > IN_FLIGHT {
@@ -472,39 +529,48 @@ impl<'a, 'b> Cluster<'a, 'b> {
     }
 
     fn receive(&mut self, reply: &Reply) -> Result<(), Failure> {
-        let phone = &mut self.phones[reply.phone];
-        if phone.installed != reply.installed && !self.late_replies_raise {
+        if self.phones[reply.phone].installed != reply.installed && !self.late_replies_raise {
             return Ok(());
         }
+        let call = if reply.written { Call::SessionRaiseWritten } else { Call::SessionRaise };
         let given = Lent::exactly(&mut self.r, &reply.v);
-        let mut lents = Lents { out: phone.session.clone(), given, ..Lents::default() };
-        if self.run.call(Call::SessionRaise, &mut lents)? != 0 {
-            return failed("a session is not raised".to_string());
-        }
-        phone.session = lents.out;
-        phone.seen.add_all(&reply.history);
+        let session = self.on_session(call, given, self.phones[reply.phone].session.clone())?;
+        let phone = &mut self.phones[reply.phone];
+        phone.session = session;
+        let known = if reply.written { &mut phone.known.wrote } else { &mut phone.known.seen };
+        known.add_all(&reply.writes);
         Ok(())
     }
 
-    fn reinstall(&mut self) {
-        let which = self.r.below(self.phones.len());
-        let phone = &mut self.phones[which];
-        phone.installed += 1;
-        phone.session = Lent::new(&mut self.r, &[0; model::VECTOR], model::VECTOR);
-        phone.seen = Writes::default();
+    /// Begins a phone's session, of any choice.
+    fn install(&mut self, phone: usize) -> Result<(), Failure> {
+        let choice = self.r.from_to(1, 3) as u8;
+        let length = Session::LENGTH + self.r.pick(&[0, 0, 1, 3]);
+        let out = Lent::new(&mut self.r, &[], length);
+        self.phones[phone].session = self.on_session(Call::SessionStart { choice }, Lent::default(), out)?;
+        self.phones[phone].known = Known { choice, ..Known::default() };
+        Ok(())
     }
 
-    fn write(&mut self, server: usize, call: Call, asked: &[u8]) -> Result<(), Failure> {
+    fn reinstall(&mut self) -> Result<(), Failure> {
+        let phone = self.r.below(self.phones.len());
+        self.phones[phone].installed += 1;
+        self.install(phone)
+    }
+
+    /// The record performed, if any.
+    fn write(&mut self, server: usize, call: Call, asked: &[u8]) -> Result<Option<RecordBytes>, Failure> {
         let expected = self.record_of(server, &call);
         let (refusal, reply) = self.at(server, call, asked, model::WRITE_REPLY)?;
-        if refusal == 0 {
-            let performed = *history_of(&self.servers[server].memory).last().unwrap();
-            if performed != expected || reply != performed[12..] {
-                return failed(format!("server {server}: the write performed is not the write asked for"));
-            }
-            self.servers[server].performed.push(performed);
+        if refusal != 0 {
+            return Ok(None);
         }
-        Ok(())
+        let performed = *history_of(&self.servers[server].memory).last().unwrap();
+        if performed != expected || reply != performed[12..] {
+            return failed(format!("server {server}: the write performed is not the write asked for"));
+        }
+        self.servers[server].performed.push(performed);
+        Ok(Some(performed))
     }
 
     fn write_cut(&mut self, server: usize, call: Call, asked: &[u8]) -> Result<(), Failure> {
@@ -755,7 +821,9 @@ impl<'a, 'b> Cluster<'a, 'b> {
             0 => {
                 self.at(to, Call::Read { server, phone, cell }, &asked, model::READ_REPLY)?;
             }
-            1 => self.write(to, Call::Write { server, phone, cell, value, time }, &asked)?,
+            1 => {
+                self.write(to, Call::Write { server, phone, cell, value, time }, &asked)?;
+            }
             2 => {
                 let stores = self.r.below(32) as u32;
                 let call = Call::WriteCut { server, phone, cell, value, time, stores };

@@ -3,15 +3,16 @@
 use crate::call::{Call, Kind};
 use crate::case::{Lent, Lents};
 use crate::make::{self, Made};
-use crate::model::{self, Header, Message, Record, State};
+use crate::model::{self, Header, Message, Record, Session, State};
 use crate::random::Random;
 
 /// Any call, each with the chance of its weight.
 fn some_kind(r: &mut Random) -> Kind {
     let weights = Kind::ALL.iter().map(|kind| match kind {
         Kind::Version => 1,
-        Kind::SessionRaise => 2,
+        Kind::SessionStart => 2,
         Kind::Start | Kind::MessageFirst => 3,
+        Kind::SessionRaise | Kind::SessionRaiseWritten | Kind::SessionAsks => 3,
         Kind::Cut | Kind::Status | Kind::MessageCheck => 4,
         Kind::Message | Kind::MessageNext => 5,
         Kind::Judge | Kind::MessageWrite => 6,
@@ -169,14 +170,43 @@ fn on(r: &mut Random, kind: Kind, made: &Made) -> (Call, Lents) {
         }
         Kind::MessageWrite => message_write(r, made, &mut lents),
         Kind::MessageNext => message_next(r, &block, made, &mut lents),
-        Kind::SessionRaise => {
-            let (session, reply_vector) = (asked(r, &block), asked(r, &block));
-            lents.out = lent(r, &session, model::VECTOR);
+        Kind::SessionStart => {
+            lents.out = lent(r, &[], Session::LENGTH);
+            Call::SessionStart { choice: choice(r) }
+        }
+        Kind::SessionRaise | Kind::SessionRaiseWritten => {
+            lents.out = session(r, &block);
+            let reply_vector = asked(r, &block);
             lents.given = lent(r, &reply_vector, model::VECTOR);
-            Call::SessionRaise
+            if kind == Kind::SessionRaise {
+                Call::SessionRaise
+            } else {
+                Call::SessionRaiseWritten
+            }
+        }
+        Kind::SessionAsks => {
+            lents.given = session(r, &block);
+            lents.out = lent(r, &[], model::VECTOR);
+            Call::SessionAsks
         }
     };
     (call, lents)
+}
+
+/// Any choice, mostly a known one.
+fn choice(r: &mut Random) -> u8 {
+    match r.below(6) {
+        0 => r.u8(),
+        // Unknown, but for some of its bits.
+        1 => r.pick(&[0, 4, 5, 6, 7, 128 + 1, 64 + 2, 128 + 3, 255]),
+        _ => r.from_to(1, 3) as u8,
+    }
+}
+
+/// A session whose two vectors are around V.
+fn session(r: &mut Random, block: &State) -> Lent {
+    let bytes = [asked(r, block), asked(r, block), vec![choice(r)]].concat();
+    lent(r, &bytes, Session::LENGTH)
 }
 
 /// A vector around V.

@@ -87,7 +87,10 @@ mod real {
                 // Places have more than 32 bits: all of them are compared.
                 Call::MessageFirst => return ffi::message_first(given),
                 Call::MessageNext { at } => return ffi::message_next(given, at, out),
+                Call::SessionStart { choice } => ffi::session_start(choice, out),
                 Call::SessionRaise => ffi::session_raise(out, given),
+                Call::SessionRaiseWritten => ffi::session_raise_written(out, given),
+                Call::SessionAsks => ffi::session_asks(given, out),
             };
             number as usize
         }

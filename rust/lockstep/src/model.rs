@@ -1,4 +1,4 @@
-//! The model: document 01 and the library's interface, written for clarity.
+//! The model: document 01, document 02's CR 3 and the library's interface, written for clarity.
 //!
 //! Every call of the interface is here a pure function on bytes, and `run` is all of them.
 
@@ -27,7 +27,7 @@ pub const WRITE_REPLY: usize = VECTOR;
 pub const STATUS_REPLY: usize = 2;
 
 /// The version of the interface that all this is of.
-pub const VERSION: u32 = 1;
+pub const VERSION: u32 = 2;
 
 // ---------------------------------------------------------------- refusal numbers
 
@@ -67,6 +67,11 @@ pub fn vector(bytes: &[u8]) -> Vector {
 
 pub fn vector_bytes(v: &Vector) -> Vec<u8> {
     v.iter().flat_map(|p| p.to_le_bytes()).collect()
+}
+
+/// "to the maximum, position by position"
+fn maximum(a: Vector, b: Vector) -> Vector {
+    std::array::from_fn(|i| a[i].max(b[i]))
 }
 
 // ---------------------------------------------------------------- records
@@ -209,6 +214,52 @@ pub fn listing(input: &[u8]) -> String {
         text.push('\n');
     }
     text
+}
+
+// ---------------------------------------------------------------- a phone's session
+
+/// R, "a second session vector, raised by the reply to each write, and a choice fixed per
+/// session"
+#[derive(Clone, Debug, PartialEq, Eq)]
+pub struct Session {
+    pub r: Vector,
+    pub own_writes: Vector,
+    pub choice: u8,
+}
+
+impl Session {
+    pub const LENGTH: usize = 2 * VECTOR + 1;
+    pub const CHOICE_AT: usize = 2 * VECTOR;
+
+    /// "begins a new session, at zero"; "an unknown choice is 1"
+    fn new(choice: u8) -> Result<Session, u32> {
+        refuse_if(!(1..=3).contains(&choice), RANGE)?;
+        Ok(Session { r: [0; SERVERS], own_writes: [0; SERVERS], choice })
+    }
+
+    /// The session in its bytes, if its choice is known.
+    fn parse(bytes: &[u8]) -> Result<Session, u32> {
+        let new = Session::new(bytes[Session::CHOICE_AT])?;
+        Ok(Session { r: vector(bytes), own_writes: vector(&bytes[VECTOR..]), ..new })
+    }
+
+    fn bytes(&self) -> Vec<u8> {
+        [vector_bytes(&self.r), vector_bytes(&self.own_writes), vec![self.choice]].concat()
+    }
+
+    /// "1 reads that stay read, 2 own writes, 3 both"
+    fn chosen(&self) -> Vec<Vector> {
+        match self.choice {
+            1 => vec![self.r],
+            2 => vec![self.own_writes],
+            _ => vec![self.r, self.own_writes],
+        }
+    }
+
+    /// "a read carries the maximum of those chosen"
+    fn carried(&self) -> Vector {
+        self.chosen().into_iter().fold([0; SERVERS], maximum)
+    }
 }
 
 // ---------------------------------------------------------------- the state block
@@ -723,7 +774,8 @@ impl Left {
 }
 
 /// Any call. `given` is the buffer lent to be read beside the memory (asked vector, message,
-/// records, reply vector), `out` the one lent to be changed (reply, output, record, session).
+/// records, reply vector, or the session that asks), `out` the one lent to be changed (reply,
+/// output, record, session, or the vector that a session asks for).
 pub fn run(call: &Call, memory: &Memory, given: &[u8], out: &[u8]) -> Left {
     let left = match *call {
         Call::Version => Ok(Left::number(VERSION as usize)),
@@ -747,7 +799,10 @@ pub fn run(call: &Call, memory: &Memory, given: &[u8], out: &[u8]) -> Left {
         Call::MessageWrite { n, sender } => message_write(n, sender, given, out),
         Call::MessageFirst => Ok(message_first(given)),
         Call::MessageNext { at } => message_next(given, at, out),
-        Call::SessionRaise => session_raise(out, given),
+        Call::SessionStart { choice } => session_start(out, choice),
+        Call::SessionRaise => session_raise(out, given, false),
+        Call::SessionRaiseWritten => session_raise(out, given, true),
+        Call::SessionAsks => session_asks(given, out),
     };
     // "A refusal returns its number only and changes nothing."
     left.unwrap_or_else(|refusal| Left::number(refusal as usize))
@@ -904,12 +959,27 @@ fn message_next(message: &[u8], at: usize, record: &[u8]) -> Result<Left, u32> {
     }
 }
 
-/// "A read's reply raises R to the maximum, position by position."
-fn session_raise(session: &[u8], reply_vector: &[u8]) -> Result<Left, u32> {
-    refuse_if(session.len() < VECTOR || reply_vector.len() < VECTOR, SHORT)?;
-    let (r, v) = (vector(session), vector(reply_vector));
-    let maximum: Vector = std::array::from_fn(|i| r[i].max(v[i]));
-    Ok(Left::out(answered(session, &vector_bytes(&maximum))?))
+/// A new session: 9 for what is lent, then 1.
+fn session_start(session: &[u8], choice: u8) -> Result<Left, u32> {
+    refuse_if(session.len() < Session::LENGTH, SHORT)?;
+    Ok(Left::out(answered(session, &Session::new(choice)?.bytes())?))
+}
+
+/// "A read's reply raises R to the maximum, position by position"; the second vector is
+/// "raised by the reply to each write". "Both vectors are always raised": whatever the choice
+/// is. 9 for what is lent, then 1.
+fn session_raise(session: &[u8], reply_vector: &[u8], written: bool) -> Result<Left, u32> {
+    refuse_if(session.len() < Session::LENGTH || reply_vector.len() < VECTOR, SHORT)?;
+    let mut after = Session::parse(session)?;
+    let raised = if written { &mut after.own_writes } else { &mut after.r };
+    *raised = maximum(*raised, vector(reply_vector));
+    Ok(Left::out(answered(session, &after.bytes())?))
+}
+
+/// What the session's next read carries: 9 for what is lent, then 1, then 9 for the output.
+fn session_asks(session: &[u8], asked: &[u8]) -> Result<Left, u32> {
+    refuse_if(session.len() < Session::LENGTH, SHORT)?;
+    Ok(Left::out(answered(asked, &vector_bytes(&Session::parse(session)?.carried()))?))
 }
 
 #[cfg(test)]
@@ -927,6 +997,7 @@ mod tests {
         assert_eq!(MESSAGE_HEADER + HISTORY, 7_176);
         assert_eq!(State::fresh(1, 0).bytes().len(), STATE);
         assert_eq!(Header::new(1, 0, 0, 0).bytes().len(), Header::LENGTH);
+        assert_eq!(Session::new(1).unwrap().bytes().len(), Session::LENGTH);
     }
 
     #[test]
@@ -935,6 +1006,19 @@ mod tests {
         assert_eq!(State::parse(&bytes).bytes(), bytes);
         assert_eq!(Record::parse(&bytes).bytes()[..], bytes[..28]);
         assert_eq!(Header::parse(&bytes).bytes()[..], bytes[..16]);
+        let session = [&bytes[..32], &[2]].concat();
+        assert_eq!(Session::parse(&session).unwrap().bytes(), session);
+    }
+
+    #[test]
+    fn each_choice_of_a_session() {
+        let (r, own_writes) = ([3, 0, 256, 0, 0, 0, 0, 1], [2, 5, 0, 0, 0, 0, 0, 1]);
+        for (choice, carried) in [(1, r), (2, own_writes), (3, [3, 5, 256, 0, 0, 0, 0, 1])] {
+            assert_eq!(Session { r, own_writes, choice }.carried(), carried);
+        }
+        for unknown in [0, 4, 255] {
+            assert_eq!(Session::new(unknown), Err(RANGE));
+        }
     }
 
     #[test]

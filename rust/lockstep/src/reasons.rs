@@ -3,7 +3,7 @@
 
 use crate::call::{Call, Kind};
 use crate::case::Lents;
-use crate::model::{self, Fault, Header, Message, Record, State, Vector};
+use crate::model::{self, Fault, Header, Message, Record, Session, State, Vector};
 
 /// A reason that a lent byte or a number of the call shows. Bytes missing from a short
 /// buffer show nothing; a number is taken from the state block as it stands.
@@ -26,6 +26,7 @@ pub enum Cause {
     Own,
     Origin,
     Sender,
+    Choice,
     Message,
     MessageN,
     MessageFromReceiver,
@@ -77,7 +78,7 @@ impl Cause {
             ShortState | ShortAsked | ShortHistory | ShortImage | ShortSession | ShortReplyVector => Reason::Short9,
             Unsound => Reason::State6,
             Down | Up => Reason::Down2,
-            ServerNotOwn | Phone | Cell | PastN | N | Own | Origin | Sender => Reason::Range1,
+            ServerNotOwn | Phone | Cell | PastN | N | Own | Origin | Sender | Choice => Reason::Range1,
             Message | MessageN | MessageFromReceiver | Records => Reason::Message6,
             NotYet => Reason::NotYet3,
             Gap => Reason::Gap7,
@@ -152,9 +153,14 @@ pub fn find(call: &Call, lents: &Lents) -> Found {
             message_write(&mut found, n, sender, lents.given.bytes(), lents.out.bytes().len())
         }
         Call::MessageNext { at } => message_next(&mut found, lents.given.bytes(), at, lents.out.bytes().len()),
-        Call::SessionRaise => {
-            found.note(lents.out.bytes().len() < model::VECTOR, Cause::ShortSession);
+        Call::SessionStart { choice } => session(&mut found, lents.out.bytes(), Some(choice)),
+        Call::SessionRaise | Call::SessionRaiseWritten => {
+            stored_session(&mut found, lents.out.bytes());
             found.note(lents.given.bytes().len() < model::VECTOR, Cause::ShortReplyVector);
+        }
+        Call::SessionAsks => {
+            stored_session(&mut found, lents.given.bytes());
+            found.note(lents.out.bytes().len() < model::VECTOR, Cause::ShortOut);
         }
         _ => at_a_server(&mut found, call, lents),
     }
@@ -205,6 +211,16 @@ fn message_next(found: &mut Found, message: &[u8], at: usize, room: usize) {
     found.note(behind.is_some() && at > end, Cause::PastEnd);
     found.note(at == end, Cause::AtEnd);
     found.note(at < end && behind > Some(end), Cause::PartLeft);
+}
+
+fn session(found: &mut Found, bytes: &[u8], choice: Option<u8>) {
+    found.note(bytes.len() < Session::LENGTH, Cause::ShortSession);
+    found.note(choice.is_some_and(|choice| choice == 0 || choice > 3), Cause::Choice);
+}
+
+/// Its choice is among its bytes.
+fn stored_session(found: &mut Found, bytes: &[u8]) {
+    session(found, bytes, bytes.get(Session::CHOICE_AT).copied());
 }
 
 fn at_a_server(found: &mut Found, call: &Call, lents: &Lents) {

@@ -23,6 +23,18 @@ pub struct Tally {
     pub swept_reads: BTreeMap<u32, u64>,
     /// Writes that were cut after each of their stores.
     pub swept_writes: u64,
+    /// Reads served, by the session's choice and by how many of the writes that it had read,
+    /// and of its own, the server had.
+    pub served: BTreeMap<(u8, Met, Met), u64>,
+}
+
+/// How many of some writes were met.
+#[derive(Clone, Copy, Debug, PartialEq, Eq, PartialOrd, Ord)]
+pub enum Met {
+    /// There were none.
+    Nothing,
+    All,
+    NotAll,
 }
 
 impl Tally {
@@ -81,6 +93,11 @@ impl Tally {
         if self.swept_writes == 0 {
             missing.push("every cut of a write".to_string());
         }
+        for (choice, read, own) in SERVED_IN_CLUSTERS {
+            if !self.served.contains_key(&(choice, read, own)) {
+                missing.push(format!("a read served under choice {choice}: had read {read:?}, own {own:?}"));
+            }
+        }
         missing
     }
 
@@ -116,7 +133,7 @@ impl Tally {
             let of = if hostile { "hostile cases" } else { "clusters" };
             text += &format!("numbers returned in {of} (10 is a place or the version)\n");
             for &kind in Kind::ALL {
-                text += &format!("  {:13}", format!("{kind:?}"));
+                text += &format!("  {:19}", format!("{kind:?}"));
                 for number in 0..=10 {
                     if let Some(seen) = self.numbers.get(&(hostile, kind, number)) {
                         text += &format!(" {number}:{seen}");
@@ -132,7 +149,11 @@ impl Tally {
             self.swept_writes,
             swept.join(" ")
         );
-        text += "pairs of reasons (the one reported, one that was there too)\n";
+        text += "reads served under a choice (of the writes that it had read, of its own, the server had)\n ";
+        for ((choice, read, own), times) in &self.served {
+            text += &format!(" {choice}-{read:?}-{own:?}:{times}");
+        }
+        text += "\npairs of reasons (the one reported, one that was there too)\n";
         for &kind in Kind::ALL {
             let seen: Vec<String> = self
                 .pairs
@@ -170,8 +191,12 @@ impl Tally {
     }
 }
 
+/// Reads by which the choices differ.
+const SERVED_IN_CLUSTERS: [(u8, Met, Met); 3] =
+    [(1, Met::All, Met::NotAll), (2, Met::NotAll, Met::All), (3, Met::All, Met::All)];
+
 /// What genuine clusters meet (7 and 8 cannot come of genuine messages).
-const MET_IN_CLUSTERS: [(Kind, u32); 27] = [
+const MET_IN_CLUSTERS: [(Kind, u32); 31] = [
     (Kind::Version, 10),
     (Kind::Read, 0),
     (Kind::Read, 1),
@@ -199,6 +224,10 @@ const MET_IN_CLUSTERS: [(Kind, u32); 27] = [
     (Kind::MessageFirst, 10),
     (Kind::MessageNext, 0),
     (Kind::MessageNext, 10),
+    (Kind::SessionStart, 0),
+    (Kind::SessionRaise, 0),
+    (Kind::SessionRaiseWritten, 0),
+    (Kind::SessionAsks, 0),
 ];
 
 /// The reasons a call can give, in order.
@@ -219,19 +248,22 @@ fn reasons_of(kind: Kind) -> &'static [Reason] {
         Kind::MessageCheck | Kind::MessageFirst => &[Message6],
         Kind::MessageWrite => &[Range1, Message6, Output9],
         Kind::MessageNext => &[Output9, End0],
-        Kind::SessionRaise => &[Short9],
+        Kind::SessionStart | Kind::SessionRaise | Kind::SessionRaiseWritten => &[Short9, Range1],
+        Kind::SessionAsks => &[Short9, Range1, Output9],
     }
 }
 
 /// Every two reasons of a call, the first reported, but for those that cannot meet: a sound
-/// down state holds no writes, and a message has at most 256, so 2 never meets 4.
+/// down state holds no writes, and a message has at most 256, so 2 never meets 4; a session
+/// that is too short has no choice that could be unknown.
 pub fn pairs_that_can_meet() -> Vec<(Kind, Reason, Reason)> {
     let mut pairs = Vec::new();
     for &kind in Kind::ALL {
         let reasons = reasons_of(kind);
         for (i, &first) in reasons.iter().enumerate() {
             for &other in &reasons[i + 1..] {
-                if (first, other) != (Reason::Down2, Reason::Full4) {
+                let shorter = (kind, first, other) == (Kind::SessionAsks, Reason::Short9, Reason::Range1);
+                if (first, other) != (Reason::Down2, Reason::Full4) && !shorter {
                     pairs.push((kind, first, other));
                 }
             }
@@ -285,7 +317,11 @@ fn causes_that_can_be_alone() -> Vec<(Kind, Cause)> {
     add(Kind::MessageFirst, &[Message]);
     add(Kind::MessageWrite, &[N, Sender, Records, ShortOut]);
     add(Kind::MessageNext, &[ShortOut, AtEnd, PartLeft, PastEnd, PlaceTooGreat]);
-    add(Kind::SessionRaise, &[ShortSession, ShortReplyVector]);
+    add(Kind::SessionStart, &[ShortSession, Choice]);
+    for kind in [Kind::SessionRaise, Kind::SessionRaiseWritten] {
+        add(kind, &[ShortSession, ShortReplyVector, Choice]);
+    }
+    add(Kind::SessionAsks, &[ShortSession, Choice, ShortOut]);
     causes
 }
 

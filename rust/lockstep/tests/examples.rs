@@ -1,5 +1,5 @@
-//! Document 01's examples, by hand, on every library there is (the model, and the archive
-//! if one is linked).
+//! Document 01's examples and document 02's sessions, by hand, on every library there is
+//! (the model, and the archive if one is linked).
 
 use ssaldorip_tests::call::Call;
 use ssaldorip_tests::case::{Lent, Lents};
@@ -409,13 +409,115 @@ fn the_version_is_the_models() {
     }
 }
 
+/// The vector of reads, the vector of own writes, the choice, and bytes past the session.
+fn session(reads: &[u16], writes: &[u16], choice: u8, past: &[u8]) -> Vec<u8> {
+    [&bytes(reads)[..], &bytes(writes), &[choice], past].concat()
+}
+
+/// What the session's next read carries.
+fn asks(library: &dyn Library, session: &[u8]) -> Vec<u8> {
+    let mut asked = [0xee; 18];
+    assert_eq!(alone(library, Call::SessionAsks, session, &mut asked), 0);
+    assert_eq!(asked[16..], [0xee; 2]);
+    asked[..16].to_vec()
+}
+
 #[test]
-fn a_session_is_raised_position_by_position() {
+fn a_session_begins_at_zero() {
     for library in libraries() {
-        let mut session = bytes(&[3, 0, 256, 7]);
-        assert_eq!(alone(library, Call::SessionRaise, &bytes(&[1, 5, 255, 7, 1]), &mut session), 0);
-        assert_eq!(session, bytes(&[3, 5, 256, 7, 1]));
-        assert_eq!(alone(library, Call::SessionRaise, &[0; 15], &mut session), 9);
+        for choice in 1..=3 {
+            let mut begun = [0xee; 35];
+            assert_eq!(alone(library, Call::SessionStart { choice }, &[], &mut begun), 0);
+            assert_eq!(begun[..], [&[0; 32][..], &[choice, 0xee, 0xee]].concat());
+            assert_eq!(asks(library, &begun), [0; 16]);
+        }
+    }
+}
+
+#[test]
+fn both_vectors_are_raised_under_each_choice() {
+    for library in libraries() {
+        for choice in 1..=3 {
+            let mut raised = session(&[3, 0, 256, 7], &[2, 6, 0, 0, 0, 0, 0, 0x0102], choice, &[9]);
+            let by = bytes(&[1, 5, 255, 8, 1]);
+            assert_eq!(alone(library, Call::SessionRaise, &by, &mut raised), 0);
+            assert_eq!(raised, session(&[3, 5, 256, 8, 1], &[2, 6, 0, 0, 0, 0, 0, 0x0102], choice, &[9]));
+            let by = session(&[3, 1, 1, 0, 0, 0, 0, 0x0201], &[9], 9, &[]); // Its first 16 bytes are the reply.
+            assert_eq!(alone(library, Call::SessionRaiseWritten, &by, &mut raised), 0);
+            assert_eq!(raised, session(&[3, 5, 256, 8, 1], &[3, 6, 1, 0, 0, 0, 0, 0x0201], choice, &[9]));
+        }
+    }
+}
+
+#[test]
+fn a_read_carries_the_maximum_of_those_chosen() {
+    let (reads, writes) = ([3, 5, 256, 8, 1, 0, 0, 0], [4, 6, 1, 0, 0, 0, 0, 0x0201]);
+    for library in libraries() {
+        for (choice, carried) in [(1, reads), (2, writes), (3, [4, 6, 256, 8, 1, 0, 0, 0x0201])] {
+            assert_eq!(asks(library, &session(&reads, &writes, choice, &[])), bytes(&carried));
+        }
+    }
+}
+
+/// Every number but 1, 2 and 3 is refused with 1, as a choice and as byte 32 of a session, and
+/// nothing is changed.
+#[test]
+fn an_unknown_choice_is_refused() {
+    for library in libraries() {
+        for choice in (0..=255).filter(|choice| ![1, 2, 3].contains(choice)) {
+            let stored = session(&[3], &[4], choice, &[1, 2, 3]);
+            for call in [Call::SessionStart { choice }, Call::SessionRaise, Call::SessionRaiseWritten] {
+                let mut after = stored.clone();
+                assert_eq!(alone(library, call, &bytes(&[9, 9]), &mut after), 1, "{call:?} of {choice}");
+                assert_eq!(after, stored);
+            }
+            let mut asked = [0xee; 16];
+            assert_eq!(alone(library, Call::SessionAsks, &stored, &mut asked), 1);
+            assert_eq!(asked, [0xee; 16]);
+        }
+    }
+}
+
+/// 9 for what is lent, then 1, then 9 for the output.
+#[test]
+fn the_order_of_a_sessions_refusals() {
+    for library in libraries() {
+        for choice in [0, 1, 2, 3, 4] {
+            let known = (1..=3).contains(&choice);
+            // A session as it was stored before: 16 bytes. And one without its choice.
+            for length in [0, 16, 32] {
+                let short = vec![choice; length];
+                for call in [Call::SessionStart { choice }, Call::SessionRaise, Call::SessionRaiseWritten] {
+                    assert_eq!(alone(library, call, &[0; 16], &mut short.clone()), 9);
+                }
+                assert_eq!(alone(library, Call::SessionAsks, &short, &mut [0; 16]), 9);
+                assert_eq!(alone(library, Call::SessionAsks, &short, &mut [0; 15]), 9);
+            }
+            let stored = session(&[3], &[4], choice, &[]);
+            for call in [Call::SessionRaise, Call::SessionRaiseWritten] {
+                assert_eq!(alone(library, call, &[0; 15], &mut stored.clone()), 9);
+            }
+            let no_room = alone(library, Call::SessionAsks, &stored, &mut [0; 15]);
+            assert_eq!(no_room, if known { 9 } else { 1 });
+        }
+    }
+}
+
+/// "A grower saves a note, drives on, and the next server shows the field without it": so under
+/// choice 1, and not yet under 2 and 3.
+#[test]
+fn a_phone_finds_its_own_writes() {
+    for library in libraries() {
+        for (choice, before) in [(1, Ok(None)), (2, Err(3)), (3, Err(3))] {
+            let (mut zero, mut one) = (Server::fresh(library, 2, 0), Server::fresh(library, 2, 1));
+            let mut phone = session(&[], &[], choice, &[]);
+            let reply = zero.write(5, 300, 7).unwrap();
+            assert_eq!(alone(library, Call::SessionRaiseWritten, &reply, &mut phone), 0);
+            let asked: Vec<u16> = asks(library, &phone).chunks(2).map(|p| u16::from_le_bytes([p[0], p[1]])).collect();
+            assert_eq!(one.read(5, 300, &asked), before);
+            assert_eq!(one.update(&zero.message()), 0);
+            assert_eq!(one.read(5, 300, &asked), Ok(Some(7)));
+        }
     }
 }
 
