@@ -1,6 +1,7 @@
 #!/bin/sh
-# Tests of the built archive from outside: the lockstep with an independent model, the Rust package and a C program. The
-# archive is for x86-64. On another machine they are built for that too and run by an emulator, if what this takes is there.
+# Tests of the built archive from outside: the lockstep with an independent model, the Rust package, a C program, and how often a
+# call reads each record, for which an emulator traces it. The archive is for x86-64. On another machine all of them are built for
+# that too and run by the emulator, if what this takes is there.
 cd "$(dirname "$0")/.." || exit 1
 passed=0
 failed=0
@@ -84,8 +85,15 @@ else
     keep lockstep_examples cargo test --offline --release --manifest-path rust/lockstep/Cargo.toml
     keep package cargo test --offline --release --manifest-path rust/Cargo.toml
     keep c_program c_program
+    names='lockstep_hostile lockstep_clusters lockstep_examples package c_program'
+    if command -v qemu-x86_64 >/dev/null; then
+        keep passes sh tests/passes/run.sh target/staticlib/libssaldorip.a $cc qemu-x86_64
+        names="$names passes"
+    else
+        echo 'Not run: how often a call reads each record, since this machine has no qemu-x86_64 to trace it.'
+    fi
     wait
-    for name in lockstep_hostile lockstep_clusters lockstep_examples package c_program; do
+    for name in $names; do
         count $name
     done
 fi

@@ -1,15 +1,15 @@
--- Laws of loops that count and compare: one byte or one record more, and the end.
+-- Laws of loops that compare: one byte or one record more, and the end.
 -- Assumes nothing.
 use Prim.Native.Nat.{ℕ, zero, suc, _+_, _-_, _*_, _≤_, _<_}
-use mathlib.Core.Bool.{Bool, true, false, _&&_, cond, and-true, and-false, and-assoc}
+use mathlib.Core.Bool.{Bool, true, false, _&&_, and-true, and-false, and-assoc}
 use mathlib.Core.List.{List, [], _∷_, _++_, append-nil}
 use mathlib.Core.Path.{_≡_, refl, ap, sym, _∙_}
 use native.Mathlib.Numerals.{add-one}
 use native.Mathlib.Omega.{arith}
-use borrow.Author.Tests.{eqb-true, eqb-false, eq-eqb, ne-eqb}
+use borrow.Author.Tests.{eq-eqb, ne-eqb}
 use lib.Dec.{eqb}
 use lib.ListN.{length, getD, take, drop, length-append, length-drop, drop-of-length-le}
-use lib.Seq.{length-take-le, take-all, drop-cons, getD-drop, drop-append-le, drop-nil, drop-length}
+use lib.Seq.{length-take-le, take-all, drop-cons, drop-append-le, drop-nil, drop-length}
 use Rattle.notes.specs.Lists.{same}
 use Rattle.notes.specs.Bytes.{pieces}
 use Rattle.notes.specs.Record.{recordSize, decode, number, wellFormed, records}
@@ -18,9 +18,9 @@ use Rattle.notes.specs.declared.record.Record.{Record}
 use Rattle.notes.proofs.Lists.{take-more}
 use Rattle.notes.proofs.Numbers.{AllBelow, below-drop}
 use Rattle.notes.proofs.Records.{length-records, record-at}
-use Rattle.rules.specs.Writes.{keep, writesOf, countOf, sameRecords}
+use Rattle.rules.specs.Writes.{keep, writesOf, sameRecords}
 use Rattle.rules.specs.Sound.{isLast}
-use Rattle.laws.proofs.Writes.{writesOf-append, writesOf-here, writesOf-other, countOf-append}
+use Rattle.laws.proofs.Writes.{writesOf-append, writesOf-here, writesOf-other}
 use Rattle.laws.proofs.Places.{records-take}
 use Rattle.memory.specs.Forms.{ownRun}
 use Rattle.memory.proofs.Same.{records-same}
@@ -54,50 +54,6 @@ module _ (a b : List ℕ) (l : length a ≡ length b) where
 
   pub same-all : (i : ℕ) → length a ≤ i → same (take i a) (take i b) ≡ same a b
   same-all i h = rw (take-all i a h, take-all i b (omega arith))
-
--- ---- records of an origin, from one on
-module _ (b : List ℕ) (from count : ℕ) (own : ServerId) where
-  abbrev behind : List Record
-  behind = drop from (records count b)
-
-  length-behind : length behind ≡ count - from
-  length-behind = length-drop from (records count b) ∙ ap (λ (k : ℕ). k - from) (length-records count b)
-
-  pub own-none : countOf own (take (from - from) behind) ≡ 0
-  unfolding writesOf keep
-  own-none = let e : from - from ≡ 0 = omega arith in rw e
-
-  module _ (k : ℕ) (low : from ≤ k) (h : k < count) where
-    abbrev before : List Record
-    before = take (k - from) behind
-
-    one : countOf own (take (k + 1 - from) behind) ≡ countOf own before + countOf own (this 0 count b k ∷ [])
-    one =
-        let e : k + 1 - from ≡ k - from + 1 = omega arith in
-        let f : from + (k - from) ≡ k = omega arith in
-        rw (
-          e,
-          take-more behind (k - from) (decode []) (rw length-behind (omega arith)),
-          getD-drop from (records count b) (k - from) (decode []),
-          f,
-          record-at count b k h,
-        )
-        (countOf-append own before (this 0 count b k ∷ []))
-
-    pub own-more : countOf own (take (k + 1 - from) behind) ≡ countOf own before + cond (eqb (origin 0 count b k) (own .0)) 1 0
-    own-more = go (eqb (origin 0 count b k) (own .0)) refl
-      where
-        go :
-            (t : Bool)
-            → eqb (origin 0 count b k) (own .0) ≡ t
-            → countOf own (take (k + 1 - from) behind) ≡ countOf own before + cond t 1 0
-        go true e = one ∙ rw (writesOf-here own (this 0 count b k) (origin-at 0 count b k ∙ eqb-true (origin 0 count b k) (own .0) e))
-        go false e =
-            let d = eqb-false (origin 0 count b k) (own .0) e in
-            one ∙ rw (writesOf-other own (this 0 count b k) (λ q. d (sym (origin-at 0 count b k) ∙ q)))
-
-  pub own-all : (k : ℕ) → count ≤ k → countOf own (take (k - from) behind) ≡ countOf own behind
-  own-all k h = rw (take-all (k - from) behind (rw length-behind (omega arith)))
 
 -- ---- a run of own records
 module _ (n : ℕ) (own : ServerId) (b : List ℕ) (count : ℕ) where

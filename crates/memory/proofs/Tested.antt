@@ -1,24 +1,24 @@
 -- What each test of a state, a history and an image decides.
 -- Assumes nothing.
 use Prim.Native.Nat.{ℕ, _+_, _-_, _*_, _≤_, _<_}
-use mathlib.Core.Bool.{Bool, true, false, _&&_, cond, and-false, false≢true}
+use mathlib.Core.Bool.{Bool, true, false, _&&_, cond, and-false}
 use mathlib.Core.List.{List, []}
-use mathlib.Core.Path.{_≡_, refl, ap, sym, _∙_}
+use mathlib.Core.Path.{_≡_, ap, sym, _∙_}
 use native.Mathlib.Omega.{arith}
-use borrow.Author.Tests.{leb-true, lt-leb, le-leb, eq-eqb, ne-eqb}
+use borrow.Author.Tests.{lt-leb, le-leb, eq-eqb, ne-eqb}
 use lib.Dec.{leb}
 use lib.ListN.{length, getD, take, drop, length-drop}
 use lib.Seq.{drop-drop}
 use Rattle.notes.specs.Lists.{every, same}
 use Rattle.notes.specs.Bytes.{fromBytes, pieces}
 use Rattle.notes.specs.Index.{servers}
-use Rattle.notes.specs.Vector.{at, zeros}
+use Rattle.notes.specs.Vector.{at}
 use Rattle.notes.specs.Record.{recordSize, stampAt, decode, wellFormed, records}
 use Rattle.notes.specs.Message.{historyMost}
 use Rattle.notes.specs.declared.index.ServerId.{ServerId}
 use Rattle.notes.specs.declared.vector.Vector.{Vector}
 use Rattle.notes.specs.declared.record.Record.{Record}
-use Rattle.notes.proofs.Lists.{both}
+use Rattle.notes.proofs.Lists.{both, same-true}
 use Rattle.notes.proofs.Messages.{server-facts}
 use Rattle.notes.proofs.Numbers.{AllBelow, below-drop}
 use Rattle.notes.proofs.Vectors.{zeros-at, count-from}
@@ -33,33 +33,10 @@ use Rattle.laws.proofs.Writes.{at-tally, countOf-few}
 use Rattle.memory.specs.declared.raw.Tally.{Tally}
 use Rattle.memory.specs.Forms.{Walkable, Limits, Buffers, tail, historyTest, imageTest, upTest, ownRun, newest, added, logTest, downTest, walkOf}
 use Rattle.memory.proofs.Same.{records-same}
+use Rattle.memory.proofs.Walks.{walked-not, walked, first-fails}
 use Rattle.memory.proofs.Header.{numbers}
-use Rattle.memory.proofs.Up.{up-test}
+use Rattle.memory.proofs.Up.{countOf-parts, up-test}
 use Rattle.memory.proofs.Down.{newest-last, down-test}
-
--- ---- what a walk says
-abbrev said : Bool → List Record → Tally
-said t rs = cond t (record { ok = true; counts = tally rs }) (record { ok = false; counts = zeros })
-
-module _ (n : ℕ) (rs : List Record) where
-  abbrev passes : Bool
-  passes = every (wellFormed n) rs && inTurn rs
-
-  pub walked-not : walkOf n rs .ok ≡ false → (every (wellFormed n) rs && inTurn rs) ≡ false
-  unfolding walkOf
-  walked-not e = go passes e
-    where
-      go : (t : Bool) → said t rs .ok ≡ false → t ≡ false
-      go true e = e
-      go false e = refl
-
-  pub walked : walkOf n rs .ok ≡ true → ((every (wellFormed n) rs && inTurn rs) ≡ true) × (walkOf n rs .counts ≡ tally rs)
-  unfolding walkOf
-  walked e = go passes e
-    where
-      go : (t : Bool) → said t rs .ok ≡ true → (t ≡ true) × (said t rs .counts ≡ tally rs)
-      go true e = (refl, refl)
-      go false e = absurd (false≢true e)
 
 -- ---- what a right header says
 pub limits : (n : ℕ) (own : ServerId) (i : List ℕ) → imageSize ≤ length i → headerOk n own i ≡ true → Limits n own i
@@ -92,10 +69,6 @@ module _ (s : State) (h : List Record) where
   unfolding historyTest
   history-many k = rw (lt-leb (s .held) historyMost k)
 
-  pub history-few : historyTest s h ≡ true → s .held ≤ historyMost
-  unfolding historyTest
-  history-few e = leb-true (s .held) historyMost (both (leb (s .held) historyMost) _ e .0)
-
   pub history-unwalked : walkOf (s .n) h .ok ≡ false → historyTest s h ≡ false
   unfolding historyTest
   history-unwalked e = rw (walked-not (s .n) h e, and-false)
@@ -106,6 +79,13 @@ module _ (s : State) (h : List Record) where
       let w = walked (s .n) h e in
       rw (le-leb (s .held) historyMost k, w .0) (ap (λ (v : Vector). same (s .vector .counts) (v .counts)) (w .1))
 
+  pub history-counts : historyTest s h ≡ true → s .vector .counts ≡ tally h .counts
+  unfolding historyTest vCounts
+  history-counts e =
+      let few = both (leb (s .held) historyMost) _ e in
+      let all = both (every (wellFormed (s .n)) h && inTurn h) (vCounts s h) (few .1) in
+      same-true (s .vector .counts) (tally h .counts) (all .1)
+
 -- ---- the image of an up server
 module _ (s : State) (history image : List ℕ) where
   abbrev h : List Record
@@ -113,6 +93,30 @@ module _ (s : State) (history image : List ℕ) where
 
   abbrev past : ℕ
   past = tail (s .own) (checkpoint image) h
+
+  tail-past : countOf (s .own) (drop (checkpointCount image) h) ≡ past
+  tail-past = ap (λ (k : ℕ). countOf (s .own) (drop k h)) (sym (length-checkpoint image))
+
+  -- the walk as far as the checkpoint's count
+  abbrev first : Tally
+  first = walkOf (s .n) (records (checkpointCount image) history)
+
+  pub history-stops : checkpointCount image ≤ s .held → first .ok ≡ false → historyTest s (records (s .held) history) ≡ false
+  history-stops fits e = history-unwalked s h (first-fails (s .n) (s .held) history (checkpointCount image) fits e)
+
+  -- what V counts at own more than is counted there are the own writes past it
+  pub counted-past :
+      checkpointCount image ≤ s .held
+      → s .own .0 < servers
+      → first .ok ≡ true
+      → historyTest s (records (s .held) history) ≡ true
+      → at (s .vector) (s .own) ≡ at (walkOf (s .n) (records (checkpointCount image) history) .counts) (s .own) + past
+  counted-past fits low e ok =
+      let k = checkpointCount image in
+      ap (λ (l : List ℕ). getD l (s .own .0) 0) (history-counts s h ok)
+      ∙ at-tally h (s .own) low
+      ∙ countOf-parts (s .own) k h
+      ∙ rw (records-take k (s .held) history fits, walked (s .n) (records k history) e .1, at-tally (records k history) (s .own) low, tail-past)
 
   abbrev Test : Bool
   Test = imageTest s h (checkpoint image) (log image)
@@ -141,9 +145,6 @@ module _ (s : State) (history image : List ℕ) where
   pub image-differs : isFirst (checkpoint image) (records (s .held) history) ≡ false → Test ≡ false
   unfolding imageTest
   image-differs e = rw (e, and-false)
-
-  pub tail-past : countOf (s .own) (drop (checkpointCount image) (records (s .held) history)) ≡ past
-  tail-past = ap (λ (k : ℕ). countOf (s .own) (drop k h)) (sym (length-checkpoint image))
 
   pub image-short : logCount image < past → Test ≡ false
   unfolding imageTest

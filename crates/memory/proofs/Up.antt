@@ -1,6 +1,6 @@
 -- An up state is consistent exactly where the tests of it pass.
 -- Assumes nothing.
-use Prim.Native.Nat.{_+_, _<_}
+use Prim.Native.Nat.{ℕ, _+_, _<_}
 use mathlib.Core.Bool.{true}
 use mathlib.Core.List.{List}
 use mathlib.Core.Path.{_≡_, ap, sym, _∙_}
@@ -13,6 +13,7 @@ use Rattle.notes.specs.Index.{servers}
 use Rattle.notes.specs.Vector.{vector, at}
 use Rattle.notes.specs.Record.{wellFormed}
 use Rattle.notes.specs.Message.{historyMost}
+use Rattle.notes.specs.declared.index.ServerId.{ServerId}
 use Rattle.notes.specs.declared.record.Record.{Record}
 use Rattle.notes.specs.declared.vector.Vector.{Vector}
 use Rattle.notes.proofs.Lists.{both, same-refl, same-true}
@@ -24,13 +25,14 @@ use Rattle.laws.proofs.Sound.{Facts, facts, facts-ok, kept-few, own-count}
 use Rattle.memory.specs.Forms.{tail, historyTest, imageTest, upTest}
 use Rattle.memory.proofs.Same.{same-truth}
 
+-- a list's writes of an origin are those of its first k and those past them
+pub countOf-parts : (o : ServerId) (k : ℕ) (h : List Record) → countOf o h ≡ countOf o (take k h) + countOf o (drop k h)
+countOf-parts o k h = ap (countOf o) (sym (take-append-drop k h)) ∙ countOf-append o (take k h) (drop k h)
+
 module _ (s : State) (h c l : List Record) where
   -- where the checkpoint is the first of the history, the own writes are the checkpoint's and the tail's
   own-parts : c ≡ take (length c) h → countOf (s .own) h ≡ countOf (s .own) c + tail (s .own) c h
-  own-parts e =
-      ap (countOf (s .own)) (sym (take-append-drop (length c) h))
-      ∙ countOf-append (s .own) (take (length c) h) (drop (length c) h)
-      ∙ rw (← e)
+  own-parts e = countOf-parts (s .own) (length c) h ∙ rw (← e)
 
   module _ (own : s .own .0 < servers) where
     passes : Facts s h c l → upTest s h c l ≡ true

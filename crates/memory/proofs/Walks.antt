@@ -1,29 +1,59 @@
--- Laws of walks over records: one record more, a record that fails, and the end.
+-- Laws of walks over records: what a walk says, one that goes on, one record more, a record that fails, and the end.
 -- Assumes nothing.
 use Prim.Native.Nat.{ℕ, _+_, _-_, _*_, _≤_, _<_, max}
-use mathlib.Core.Bool.{Bool, true, false, and-false}
+use mathlib.Core.Bool.{Bool, true, false, _&&_, cond, and-false, false≢true}
 use mathlib.Core.List.{List, [], _∷_, _++_, map, map-append}
 use mathlib.Core.Path.{_≡_, refl, ap, sym, _∙_, subst}
 use native.Mathlib.Nat.{add-comm, add-zero, add-sub-cancel-left}
 use native.Mathlib.Omega.{arith}
-use lib.ListN.{length, length-append, length-map, length-take, length-drop, getD, take, drop, set, replicate}
+use lib.ListN.{length, length-append, length-map, length-take, length-drop, getD, take, drop, set}
 use lib.Seq.{take-all, getD-at, getD-take, getD-drop}
-use Rattle.notes.specs.Lists.{every}
+use Rattle.notes.specs.Lists.{every, same}
+use Rattle.notes.specs.Bytes.{pieces}
 use Rattle.notes.specs.Index.{servers}
 use Rattle.notes.specs.Vector.{vector, zeros, at, raised}
 use Rattle.notes.specs.Record.{recordSize, decode, number, wellFormed, records}
 use Rattle.notes.specs.declared.vector.Vector.{Vector}
 use Rattle.notes.specs.declared.record.Record.{Record}
-use Rattle.notes.proofs.Lists.{take-more, every-append, every-fails}
+use Rattle.notes.proofs.Lists.{both, take-more, every-append, every-fails}
 use Rattle.notes.proofs.Numbers.{from-one}
 use Rattle.notes.proofs.Records.{length-records, record-at}
 use Rattle.rules.specs.Writes.{keep, counting, serverIds, writesOf, countOf, tally, inTurn}
 use Rattle.laws.proofs.Writes.{InTurn, in-turn, turn-in, turn-more, turn-first, tally-more, at-tally, writesOf-append, writesOf-here}
-use Rattle.laws.proofs.Lists.{counting-at}
+use Rattle.laws.proofs.Lists.{counting-at, every-take}
+use Rattle.laws.proofs.Places.{records-take}
 use Rattle.laws.proofs.Stamps.{at-few}
 use Rattle.laws.proofs.Sound.{formed-origin}
 use Rattle.memory.specs.Forms.{walkOf}
 use Rattle.memory.specs.declared.raw.Tally.{Tally}
+
+-- ---- what a walk says
+abbrev said : Bool → List Record → Tally
+said t rs = cond t (record { ok = true; counts = tally rs }) (record { ok = false; counts = zeros })
+
+module _ (n : ℕ) (rs : List Record) where
+  abbrev passes : Bool
+  passes = every (wellFormed n) rs && inTurn rs
+
+  pub walked-not : walkOf n rs .ok ≡ false → (every (wellFormed n) rs && inTurn rs) ≡ false
+  unfolding walkOf
+  walked-not e = go passes e
+    where
+      go : (t : Bool) → said t rs .ok ≡ false → t ≡ false
+      go true e = e
+      go false e = refl
+
+  pub walked : walkOf n rs .ok ≡ true → ((every (wellFormed n) rs && inTurn rs) ≡ true) × (walkOf n rs .counts ≡ tally rs)
+  unfolding walkOf
+  walked e = go passes e
+    where
+      go : (t : Bool) → said t rs .ok ≡ true → (t ≡ true) × (said t rs .counts ≡ tally rs)
+      go true e = (refl, refl)
+      go false e = absurd (false≢true e)
+
+-- a walk that passed says so and what it counted
+pub said-ok : (t : Tally) → t .ok ≡ true → t ≡ record { ok = true; counts = t .counts }
+said-ok t e = ap {B = Tally} (λ (x : Bool). record { ok = x; counts = t .counts }) e
 
 -- in a list in turn the last write's number is the next of its origin
 last-next : (p : List Record) (r : Record) → r .origin .0 < servers → InTurn (p ++ r ∷ []) → number r ≡ countOf (r .origin) p + 1
@@ -40,9 +70,10 @@ pub record Passed (n : ℕ) (p : List Record) (counts : List ℕ) : Type 0 where
   pub turns : InTurn p
   pub tallied : counts ≡ tally p .counts
 
-passed-none : (n : ℕ) → Passed n [] (replicate servers 0)
-unfolding every tally serverIds writesOf keep counting
-passed-none n = record { formed = refl; turns = λ o h. refl; tallied = refl }
+-- of no records there are no counts
+pub walk-none : (n : ℕ) (b : List ℕ) → walkOf n (records 0 b) ≡ record { ok = true; counts = zeros }
+unfolding walkOf records pieces every same inTurn tally serverIds writesOf keep counting
+walk-none n b = refl
 
 module _ (n : ℕ) (p : List Record) (r : Record) (v : List ℕ) (w : Passed n p v) where
   abbrev o : ℕ
@@ -102,8 +133,30 @@ module _ (n count : ℕ) (b : List ℕ) where
   abbrev pub Walked : ℕ → List ℕ → Type 0
   Walked k v = Passed n (take k rs) v
 
-  pub walked-none : Walked 0 (replicate servers 0)
-  walked-none = passed-none n
+  -- the first have been walked over
+  pub walked-first : (k : ℕ) (v : Vector) → k ≤ count → walkOf n (records k b) ≡ record { ok = true; counts = v } → Walked k (v .counts)
+  walked-first k v h e =
+      let w = walked n (records k b) (ap (λ (t : Tally). t .ok) e) in
+      let f = both (every (wellFormed n) (records k b)) (inTurn (records k b)) (w .0) in
+      rw (records-take k count b h)
+      (record {
+        formed = f .0;
+        turns = in-turn (records k b) (f .1);
+        tallied = ap (λ (t : Tally). t .counts .counts) (sym e) ∙ ap (λ (t : Vector). t .counts) (w .1);
+      })
+
+  -- where the first fail, all do
+  pub first-fails : (k : ℕ) → k ≤ count → walkOf n (records k b) .ok ≡ false → walkOf n rs .ok ≡ false
+  unfolding walkOf
+  first-fails k h e = go (walkOf n rs .ok) refl
+    where
+      go : (t : Bool) → walkOf n rs .ok ≡ t → walkOf n rs .ok ≡ false
+      go true q =
+          let f = both (every (wellFormed n) rs) (inTurn rs) (walked n rs q .0) in
+          let formed : every (wellFormed n) (records k b) ≡ true = rw (← records-take k count b h) (every-take (wellFormed n) k rs (f .0)) in
+          let turns : inTurn (records k b) ≡ true = rw (← records-take k count b h) (turn-in (take k rs) (turn-first rs k (in-turn rs (f .1)))) in
+          absurd (false≢true (sym (rw (formed, turns) at e)))
+      go false q = q
 
   first-more : (k : ℕ) → k < count → take (k + 1) rs ≡ take k rs ++ this k ∷ []
   first-more k h =

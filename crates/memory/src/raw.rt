@@ -1,5 +1,6 @@
 // Runs of bytes that the caller knows to be long enough: a walk over records in turn, and zeros.
 ghost use mathlib.Core.Path.{_≡_};
+ghost use mathlib.Core.Bool.{true};
 ghost use mathlib.Core.List.{_++_};
 ghost use Prim.Native.Nat.{_-_, _≤_};
 ghost use lib.ListN.{length, take, drop, replicate};
@@ -15,14 +16,15 @@ pub struct Tally {
     pub counts: Vector,
 }
 
-// Walks over so many records of n servers; at the first that is not next in turn the counts are no more wanted.
-pub fn walk(b: &[u8], count: usize, n: u8) -> Tally
-    requires { ⌜ Walkable n count (now b) ⌝ }
+// Walks on to so many records of n servers, where the first have passed with these counts; at the first that is not next in
+// turn the counts are no more wanted.
+pub(crate) fn walk_on(b: &[u8], passed: usize, counted: Vector, count: usize, n: u8) -> Tally
+    requires { ⌜ Walkable n count (now b) × (passed ≤ count) × (walkOf n (records passed (now b)) ≡ record { ok = true; counts = counted }) ⌝ }
     ensures { λ r. ⌜ r ≡ walkOf n (records count (now (b .entry))) ⌝ }
 {
     let most = record::raw::limits(n);
-    let mut counts = [0u16; Vector::LEN];
-    let mut k: usize = 0;
+    let mut counts = counted.counts;
+    let mut k = passed;
     while k < count {
         let at = Record::LEN * k;
         if !record::raw::well_formed(&b[at..at + Record::LEN], n, most) {
@@ -46,6 +48,14 @@ pub fn walk(b: &[u8], count: usize, n: u8) -> Tally
         ok: true,
         counts: Vector { counts },
     }
+}
+
+// Walks over so many records from the first on.
+pub fn walk(b: &[u8], count: usize, n: u8) -> Tally
+    requires { ⌜ Walkable n count (now b) ⌝ }
+    ensures { λ r. ⌜ r ≡ walkOf n (records count (now (b .entry))) ⌝ }
+{
+    walk_on(b, 0, Vector::zero(), count, n)
 }
 
 // Zeros from one place up to another.

@@ -1,12 +1,11 @@
-// Walks over records that stand one behind the other: what a walk counts, and what it compares.
+// Walks over records that stand one behind the other and compare them: with bytes, with a log, with the numbers of a run.
 ghost use mathlib.Core.Path.{_≡_};
-ghost use mathlib.Core.Bool.{cond};
 ghost use Prim.Native.Nat.{_*_, _≤_};
-ghost use lib.ListN.{length, drop};
+ghost use lib.ListN.{length};
 ghost use Rattle.notes.specs.Record.{recordSize, records};
 ghost use Rattle.notes.specs.Message.{historyMost};
 ghost use Rattle.notes.specs.Lists.{same as sameBytes};
-ghost use Rattle.rules.specs.Writes.{writesOf, countOf};
+ghost use Rattle.rules.specs.Writes.{writesOf};
 ghost use Rattle.rules.specs.Sound.{isLast};
 ghost use Rattle.memory.specs.Forms.{Walkable, ownRun};
 use notes::index::ServerId;
@@ -25,26 +24,6 @@ pub(crate) fn same(a: &[u8], b: &[u8]) -> bool
         i += 1;
     }
     equal
-}
-
-fn one_if(yes: bool) -> usize
-    ensures { λ r. ⌜ (r ≡ cond yes 1 0) × (r ≤ 1) ⌝ }
-{
-    if yes { 1 } else { 0 }
-}
-
-// How many of the records from one on are of an origin.
-pub(crate) fn own_from(b: &[u8], from: usize, count: usize, own: ServerId) -> usize
-    requires { ⌜ (recordSize * count ≤ length (now b)) × (from ≤ count) ⌝ }
-    ensures { λ r. ⌜ r ≡ countOf own (drop from (records count (now (b .entry)))) ⌝ }
-{
-    let mut found: usize = 0;
-    let mut k = from;
-    while k < count {
-        found += one_if(b[Record::LEN * k] == own.0);
-        k += 1;
-    }
-    found
 }
 
 // The records of a log are the last of the history's own writes: compared from the end backwards.
