@@ -34,7 +34,7 @@ use Rattle.rules.specs.Sound.{later, recovered, raisedBy, recoveredVector, reco
 use Rattle.rules.specs.Request.{newVector, cleared, noted}
 use Rattle.rules.specs.Step.{Turn, skipped, appended, refuses, atTurn, vectorAfter, Taken, andThen, taken}
 use Rattle.laws.proofs.Lists.{every-take, every-drop, every-keep, keep-passes}
-use Rattle.laws.proofs.Writes.{InTurn, in-turn, turn-in, turn-more, same-records, records-same, at-tally, tally-more, countOf-take, writesOf-append, writesOf-here, writesOf-other, writesOf-take, writesOf-all, writesOf-none, countOf-append, countOf-few, From, from-above, from-drop, raised-by, turn-first, same-server}
+use Rattle.laws.proofs.Writes.{InTurn, in-turn, turn-in, turn-more, same-records, records-same, at-tally, tally-more, countOf-take, writesOf-append, writesOf-here, writesOf-other, writesOf-take, writesOf-all, writesOf-none, countOf-parts, countOf-few, From, from-above, from-drop, raised-by, turn-first, same-server}
 
 -- ---- the sentences
 
@@ -395,8 +395,7 @@ module _ (s : State) (h c l : List Record) (f : Facts s h c l) (own : s .own .0 
         ap length (take-append-drop (length c) h),
         length-append (take (length c) h) (drop (length c) h),
         ap length (f .first),
-        countOf-append (s .own) (take (length c) h) (drop (length c) h),
-        ap (countOf (s .own)) (take-append-drop (length c) h),
+        countOf-parts (s .own) (length c) h,
         ap (countOf (s .own)) (f .first),
         countOf-few (s .own) (drop (length c) h),
       )

@@ -70,11 +70,12 @@ module _ (o : ServerId) where
       ∙ ap (take (countOf o (take k h))) (writesOf-append (take k h) (drop k h))
       ∙ take-append-seam (writesOf o (take k h)) (writesOf o (drop k h)))
 
+  -- those of a list are those of its first writes and those past them
+  pub countOf-parts : (k : ℕ) (h : List Record) → countOf o h ≡ countOf o (take k h) + countOf o (drop k h)
+  countOf-parts k h = ap (countOf o) (sym (take-append-drop k h)) ∙ countOf-append (take k h) (drop k h)
+
   pub countOf-take : (k : ℕ) (h : List Record) → countOf o (take k h) ≤ countOf o h
-  countOf-take k h =
-      let e = countOf-append (take k h) (drop k h) in
-      let f = ap (countOf o) (take-append-drop k h) in
-      omega arith
+  countOf-take k h = omega (arith, countOf-parts k h)
 
 -- ---- the vector that writes give
 pub length-tally : (rs : List Record) → length (tally rs .counts) ≡ servers

@@ -29,13 +29,13 @@ use Rattle.rules.specs.Memory.{Memory, memory}
 use Rattle.rules.specs.Image.{imageSize, checkpointAt, logAt, logPlace, checkpointCount, logCount, checkpointArea, logArea, headerOk, checkpoint, log}
 use Rattle.rules.specs.Sound.{vCounts, isFirst, isLast, readsOk, isZero, suits, soundUp, soundDown, sound}
 use Rattle.laws.proofs.Places.{part-in, records-take, records-drop}
-use Rattle.laws.proofs.Writes.{at-tally, countOf-few}
+use Rattle.laws.proofs.Writes.{at-tally, countOf-few, countOf-parts}
 use Rattle.memory.specs.declared.raw.Tally.{Tally}
 use Rattle.memory.specs.Forms.{Walkable, Limits, Buffers, tail, historyTest, imageTest, upTest, ownRun, newest, added, logTest, downTest, walkOf}
 use Rattle.memory.proofs.Same.{records-same}
 use Rattle.memory.proofs.Walks.{walked-not, walked, first-fails}
 use Rattle.memory.proofs.Header.{numbers}
-use Rattle.memory.proofs.Up.{countOf-parts, up-test}
+use Rattle.memory.proofs.Up.{up-test}
 use Rattle.memory.proofs.Down.{newest-last, down-test}
 
 -- ---- what a right header says
@@ -79,7 +79,7 @@ module _ (s : State) (h : List Record) where
       let w = walked (s .n) h e in
       rw (le-leb (s .held) historyMost k, w .0) (ap (λ (v : Vector). same (s .vector .counts) (v .counts)) (w .1))
 
-  pub history-counts : historyTest s h ≡ true → s .vector .counts ≡ tally h .counts
+  history-counts : historyTest s h ≡ true → s .vector .counts ≡ tally h .counts
   unfolding historyTest vCounts
   history-counts e =
       let few = both (leb (s .held) historyMost) _ e in

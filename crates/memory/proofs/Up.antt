@@ -1,33 +1,28 @@
 -- An up state is consistent exactly where the tests of it pass.
 -- Assumes nothing.
-use Prim.Native.Nat.{ℕ, _+_, _<_}
+use Prim.Native.Nat.{_+_, _<_}
 use mathlib.Core.Bool.{true}
 use mathlib.Core.List.{List}
 use mathlib.Core.Path.{_≡_, ap, sym, _∙_}
 use native.Mathlib.Omega.{arith}
 use borrow.Author.Tests.{leb-true, le-leb, eqb-true, eq-eqb}
 use lib.Dec.{leb, eqb}
-use lib.ListN.{length, take, drop, take-append-drop}
+use lib.ListN.{length, take}
 use Rattle.notes.specs.Lists.{every, same}
 use Rattle.notes.specs.Index.{servers}
 use Rattle.notes.specs.Vector.{vector, at}
 use Rattle.notes.specs.Record.{wellFormed}
 use Rattle.notes.specs.Message.{historyMost}
-use Rattle.notes.specs.declared.index.ServerId.{ServerId}
 use Rattle.notes.specs.declared.record.Record.{Record}
 use Rattle.notes.specs.declared.vector.Vector.{Vector}
 use Rattle.notes.proofs.Lists.{both, same-refl, same-true}
 use Rattle.rules.specs.declared.state.State.{State}
 use Rattle.rules.specs.Writes.{writesOf, countOf, tally, inTurn, sameRecords}
 use Rattle.rules.specs.Sound.{vCounts, isFirst, last, isLast, readsOk, consistent}
-use Rattle.laws.proofs.Writes.{in-turn, turn-in, same-records, records-same, at-tally, countOf-append}
+use Rattle.laws.proofs.Writes.{in-turn, turn-in, same-records, records-same, at-tally, countOf-parts}
 use Rattle.laws.proofs.Sound.{Facts, facts, facts-ok, kept-few, own-count}
 use Rattle.memory.specs.Forms.{tail, historyTest, imageTest, upTest}
 use Rattle.memory.proofs.Same.{same-truth}
-
--- a list's writes of an origin are those of its first k and those past them
-pub countOf-parts : (o : ServerId) (k : ℕ) (h : List Record) → countOf o h ≡ countOf o (take k h) + countOf o (drop k h)
-countOf-parts o k h = ap (countOf o) (sym (take-append-drop k h)) ∙ countOf-append o (take k h) (drop k h)
 
 module _ (s : State) (h c l : List Record) where
   -- where the checkpoint is the first of the history, the own writes are the checkpoint's and the tail's
