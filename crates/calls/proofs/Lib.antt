@@ -3,4 +3,3 @@ pub mod Judging
 pub mod LookUp
 pub mod OwnMessage
 pub mod Starting
-pub mod Unique

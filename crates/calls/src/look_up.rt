@@ -15,14 +15,14 @@ use notes::{number, record};
 use rules::answer::{Refusal, Verdict};
 
 // Where a record is found: its place among others.
-#[derive(Drop)]
+#[derive(Clone, Copy)]
 pub(crate) enum Place {
     At(usize),
     Nothing,
 }
 
 // Where in an image a write's record stands.
-#[derive(Drop)]
+#[derive(Clone, Copy)]
 pub enum Found {
     At(usize),
     NotThere,

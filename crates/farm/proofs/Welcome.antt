@@ -27,7 +27,7 @@ use Rattle.farm.proofs.Known.{Genuine}
 use Rattle.farm.proofs.Steps.{kept-vector}
 use Rattle.farm.proofs.Gaps.{none-refused}
 use Rattle.farm.proofs.Inv.{lists-run}
-use Rattle.farm.proofs.Demands.{c, i, all_sound}
+use Rattle.farm.proofs.Demands.{c, i, all-sound}
 
 -- ---- an update in flight, at a server
 module _ (n : ℕ) (f : Farm) (x : Reached step n f) (j : ServerId) (low : j.0 < n) (msg : List ℕ) (y : msg ∈ f.sent.updates) where
@@ -87,7 +87,7 @@ pub welcomed : (n : ℕ) (f : Farm) → Reached step n f → (j : ServerId) → 
 unfolding step_at step
 welcomed n f x j low =
     record {
-      not_six = λ w v msg other six. other (six-update (f.servers j.0) (all_sound n f x j low) (record { server = j; what = w }) v msg six).0;
+      not_six = λ w v msg other six. other (six-update (f.servers j.0) (all-sound n f x j low) (record { server = j; what = w }) v msg six).0;
       six_its_own = λ msg y. (welcome n f x j low msg y).2;
       not_seven = λ msg y. (welcome n f x j low msg y).0;
       not_eight = λ msg y. (welcome n f x j low msg y).1;

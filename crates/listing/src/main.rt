@@ -1,4 +1,6 @@
 // Reads one message from standard input and prints its listing.
+#![tactic(auto)]
+
 use libc::{STDIN_FILENO, STDOUT_FILENO};
 use notes::message::{Header, Written};
 use text::listing;

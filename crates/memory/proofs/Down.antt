@@ -24,7 +24,7 @@ use Rattle.notes.proofs.Vectors.{zeros-at}
 use Rattle.rules.specs.Writes.{keep, counting, writes_of, count_of, tally, in_turn, same_records}
 use Rattle.rules.specs.Sound.{later, recovered, recovered_vector, recovered_state, last, is_last, consistent}
 use Rattle.laws.proofs.Lists.{keep-passes, every-keep, every_drop, counting-at, map_at}
-use Rattle.laws.proofs.Writes.{InTurn, in-turn, turn_in, turn-first, same-records, records-same, at-tally, writes_of-append, writes_of-all, writes_of-none, From, from-above, from-drop, raised_by, same-server}
+use Rattle.laws.proofs.Writes.{InTurn, in-turn, turn_in, turn-first, same-records, records-same, at-tally, writes_of-append, writes_of-all, writes_of-none, From, from-above, from-drop, raised-by, same-server}
 use Rattle.laws.proofs.Phones.{no_reads}
 use Rattle.laws.proofs.Sound.{Facts, facts, facts-ok}
 use Rattle.memory.specs.Forms.{own_run, newest, added, log_test, down_test}
@@ -191,7 +191,7 @@ module _ (n : ℕ) (own : ServerId) (c a b : List Record) (low : own.0 < servers
         few = omega (arith, length-append c b, p.few);
         formed = rw (every_append (well_formed n) c b, p.formed, p.run.formed);
         turns = turns-all;
-        counts = raised_by own c b low p.run.mine p.run.numbers;
+        counts = raised-by own c b low p.run.mine p.run.numbers;
         first = sym (take-append_seam c b);
         last = rw (own-all, e) log-last;
         before = omega (arith, ap length own-all, length-append (writes_of own c) b, length-append a b);

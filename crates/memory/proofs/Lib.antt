@@ -9,4 +9,3 @@ pub mod Header
 pub mod Tested
 pub mod Zeros
 pub mod Heads
-pub mod Unique

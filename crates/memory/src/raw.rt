@@ -8,7 +8,7 @@ use notes::record::Record;
 use notes::vector::Vector;
 
 // What a walk finds: whether each record is well formed and next in turn, and how many each server has.
-#[derive(Drop)]
+#[derive(Clone, Copy)]
 pub struct Tally {
     pub ok: bool,
     pub counts: Vector,

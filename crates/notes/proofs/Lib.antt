@@ -9,8 +9,3 @@ pub mod Round
 pub mod Answers
 pub mod Reading
 pub mod Sessions
-pub mod InPlace
-pub mod InLocal
-pub mod Held
-pub mod Asking
-pub mod Unique

@@ -3,11 +3,11 @@ ghost use Rattle.std.specs.Prelude.{◌≡◌};
 ghost use Rattle.notes.specs.Index.{server_ok};
 
 // A server's number: the paper's S_j.
-#[derive(Drop)]
+#[derive(Clone, Copy)]
 pub struct ServerId(pub u8);
 
 // A phone's number: the paper's C_i.
-#[derive(Drop)]
+#[derive(Clone, Copy)]
 pub struct PhoneId(pub u8);
 
 impl ServerId {

@@ -1,4 +1,6 @@
 // Records, vectors, messages and sessions: what the phone app uses alone. Nothing here knows a server's state.
+#![tactic(auto)]
+
 pub mod index;
 pub mod message;
 pub mod number;

@@ -11,14 +11,14 @@ use crate::{number, record};
 pub mod raw;
 
 // What a message says of itself: N, sender and count.
-#[derive(Drop)]
+#[derive(Clone, Copy)]
 pub struct Header {
     pub n: u8,
     pub sender: ServerId,
     pub count: usize,
 }
 
-#[derive(Drop)]
+#[derive(Clone, Copy)]
 pub enum Refusal {
     OutOfRange,
     Malformed,
@@ -26,14 +26,14 @@ pub enum Refusal {
 }
 
 // What checking a message finds.
-#[derive(Drop)]
+#[derive(Clone, Copy)]
 pub enum Checked {
     Update(Header),
     Refused(Refusal),
 }
 
 // What filling an output gives: how many bytes, or a refusal.
-#[derive(Drop)]
+#[derive(Clone, Copy)]
 pub enum Written {
     Bytes(usize),
     Refused(Refusal),

@@ -9,7 +9,7 @@ use crate::record::Record;
 use crate::{message, record};
 
 // What reading finds: a write, or that no whole record is left. An enum cannot hold a record.
-#[derive(Drop)]
+#[derive(Clone, Copy)]
 pub struct Item {
     pub found: bool,
     pub write: Record,
@@ -82,7 +82,7 @@ pub fn left_from(m: &[u8], at: usize) -> usize
 // The message and the place of the next record. A reader of a right message is made by `new`. One that is put together by hand,
 // of bytes that no one checked or at any place, is read by the same rule: while 28 bytes are left from its place on, these are
 // the record, well formed or not.
-#[derive(Drop)]
+#[derive(Clone, Copy)]
 pub struct Reader<'a> {
     pub message: &'a [u8],
     pub at: usize,

@@ -8,7 +8,7 @@ use crate::{number, vector};
 
 pub mod raw;
 
-#[derive(Drop)]
+#[derive(Clone, Copy)]
 pub struct Record {
     pub origin: ServerId,
     pub phone: PhoneId,
@@ -47,7 +47,7 @@ impl Record {
             return raw::decoded(b);
         }
         let mut padded = [0u8; Self::LEN];
-        bytes::copy(b, &mut padded);
+        number::raw::put_bytes(&mut padded, 0, b);
         raw::decoded(&padded)
     }
 

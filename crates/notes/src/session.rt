@@ -6,7 +6,7 @@ use crate::message::Refusal;
 use crate::vector::Vector;
 
 // What a session asks of the reads that it is served: that what it has read stays read, that its own writes are found, or both.
-#[derive(Drop)]
+#[derive(Clone, Copy)]
 pub enum Choice {
     Reads,
     Writes,
@@ -14,7 +14,7 @@ pub enum Choice {
 }
 
 // What a number chooses.
-#[derive(Drop)]
+#[derive(Clone, Copy)]
 pub enum Chosen {
     As(Choice),
     Refused(Refusal),
@@ -50,7 +50,7 @@ impl Choice {
 }
 
 // A choice that no call changes, and two vectors: the paper's R, raised by reads' replies, and one raised by writes'.
-#[derive(Drop)]
+#[derive(Clone, Copy)]
 pub struct Session {
     pub choice: Choice,
     pub reads: Vector,

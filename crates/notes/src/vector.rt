@@ -7,7 +7,7 @@ use crate::number;
 
 pub mod raw;
 
-#[derive(Drop)]
+#[derive(Clone, Copy)]
 pub struct Vector {
     pub counts: [u16; Vector::LEN],
 }

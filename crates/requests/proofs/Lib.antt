@@ -4,4 +4,3 @@ pub mod Storing
 pub mod Written
 pub mod Served
 pub mod Winners
-pub mod Unique

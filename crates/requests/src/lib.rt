@@ -1,4 +1,6 @@
 // A phone's request, served or cut after some of its stores. It meets the rules for every input.
+#![tactic(auto)]
+
 pub mod admit;
 mod read;
 pub mod request;

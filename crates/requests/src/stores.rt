@@ -23,7 +23,7 @@ pub(crate) fn store_bytes(image: &mut [u8], place: usize, from: &[u8], k: usize)
     ensures { image.new ≡ sets image.old place (take k from.now) }
 {
     let first = least(k, from.len());
-    bytes::copy(&from[..first], &mut image[place..]);
+    number::raw::put_bytes(image, place, &from[..first]);
 }
 
 // A count of the header.

@@ -8,7 +8,7 @@ use notes::record::Record;
 use notes::{number, record};
 
 // The winner's value, where the cell has a write; else zero.
-#[derive(Drop)]
+#[derive(Clone, Copy)]
 pub struct Won {
     pub some: bool,
     pub value: u32,

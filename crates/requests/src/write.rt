@@ -10,6 +10,7 @@ ghost use Rattle.requests.specs.Forms.{Small, Stored};
 use crate::stores;
 use memory::{image, state};
 use notes::index::PhoneId;
+use notes::number;
 use notes::record::Record;
 use notes::vector::Vector;
 use rules::answer::{Answer, Outcome};
@@ -91,7 +92,7 @@ pub(crate) fn write(
     ensures { effect_of result history.new image.new ≡ served (memory s history.old image.old) phone (Write cell value time) }
 {
     let record = store_new(s, phone, cell, value, time, STORES, history, image);
-    bytes::copy(&record, &mut history[Record::LEN * (s.held as usize)..]);
+    number::raw::put_bytes(history, Record::LEN * (s.held as usize), &record);
     Outcome {
         answer: Answer::Written,
         vector: new_vector(s),

@@ -5,4 +5,3 @@ pub mod Examples
 pub mod Further
 pub mod Layouts
 pub mod Looked
-pub mod Unique

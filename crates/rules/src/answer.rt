@@ -3,7 +3,7 @@ use crate::state::State;
 use notes::index::PhoneId;
 use notes::vector::Vector;
 
-#[derive(Drop)]
+#[derive(Clone, Copy)]
 pub enum Refusal {
     OutOfRange,
     // Down; for recovery, up.
@@ -18,7 +18,7 @@ pub enum Refusal {
 }
 
 // What a step answers. V stands beside it.
-#[derive(Drop)]
+#[derive(Clone, Copy)]
 pub enum Answer {
     Value(u32),
     NoNote,
@@ -28,7 +28,7 @@ pub enum Answer {
 }
 
 // What a step returns: its answer, V where the answer has it and zeros elsewhere, and the next state.
-#[derive(Drop)]
+#[derive(Clone, Copy)]
 pub struct Outcome {
     pub answer: Answer,
     pub vector: Vector,
@@ -36,14 +36,14 @@ pub struct Outcome {
 }
 
 // What tests find: nothing to refuse, or the first refusal.
-#[derive(Drop)]
+#[derive(Clone, Copy)]
 pub enum Verdict {
     Passed,
     Refused(Refusal),
 }
 
 // A status: how many phones are in CR, and the lowest numbered one if any.
-#[derive(Drop)]
+#[derive(Clone, Copy)]
 pub enum Status {
     Nobody,
     Phones { count: u8, lowest: PhoneId },
@@ -51,7 +51,7 @@ pub enum Status {
 }
 
 // A server's own message: how many bytes of the output it filled.
-#[derive(Drop)]
+#[derive(Clone, Copy)]
 pub enum Message {
     Bytes(usize),
     Refused(Refusal),

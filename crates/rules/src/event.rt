@@ -1,13 +1,13 @@
 // What happens at a server. The vector that a request carries and the message that an update brings stand beside the event.
 use notes::index::{PhoneId, ServerId};
 
-#[derive(Drop)]
+#[derive(Clone, Copy)]
 pub enum Request {
     Read { cell: u16 },
     Write { cell: u16, value: u32, time: u32 },
 }
 
-#[derive(Drop)]
+#[derive(Clone, Copy)]
 pub enum What {
     Request(PhoneId, Request),
     // The request is cut after so many of its stores.
@@ -17,7 +17,7 @@ pub enum What {
     Recovery,
 }
 
-#[derive(Drop)]
+#[derive(Clone, Copy)]
 pub struct Event {
     pub server: ServerId,
     pub what: What,

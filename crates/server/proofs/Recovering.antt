@@ -26,7 +26,7 @@ use Rattle.rules.specs.Memory.{memory, blank, holding, noting, no_reads}
 use Rattle.rules.specs.Image.{checkpoint_at, checkpoint_count, log_count, checkpoint_area, log_area, log_place, header_ok, checkpoint, log}
 use Rattle.rules.specs.Sound.{later, recovered, recovered_vector, recovered_state, recovered_history, recover, suits}
 use Rattle.laws.proofs.Places.{records-drop}
-use Rattle.laws.proofs.Writes.{writes_of-append, writes_of-all, writes_of-none, length-tally, at-tally, vectors-equal, same-server, raised_by}
+use Rattle.laws.proofs.Writes.{writes_of-append, writes_of-all, writes_of-none, length-tally, at-tally, vectors-equal, same-server, raised-by}
 use Rattle.memory.specs.Forms.{Limits, added, down_test, log_test, walk_of}
 use Rattle.memory.proofs.Same.{bytes-in}
 use Rattle.memory.proofs.Tested.{limits, length-checkpoint, length-log}
@@ -188,7 +188,7 @@ module _ (n : ℕ) (own : ServerId) (history image : List ℕ) (s : Suited n own
     vector-made =
         let r = tested-run n own c l suited.low tested in
         rw (tested-later n own c l suited.low tested)
-        (raised_by own c (drop (length l - added own c l) l) suited.low r.mine r.numbers
+        (raised-by own c (drop (length l - added own c l) l) suited.low r.mine r.numbers
         ∙ ap (λ (b : List Record). tally (c ++ b)) (sym (tested-later n own c l suited.low tested) ∙ lacked)
         ∙ tally-own own c new suited.low lacked-own
         ∙ rw (length-records t (drop (log_place (lc - t)) image)))

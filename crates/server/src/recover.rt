@@ -20,11 +20,12 @@ fn put_recovered(history: &mut [u8], image: &[u8], counts: Image, added: usize)
     let kept = Record::LEN * counts.checkpoint;
     let lacked = Record::LEN * added;
     let log_from = Image::LOG_AT + Record::LEN * (counts.log - added);
-    bytes::copy(
-        &image[Image::CHECKPOINT_AT..Image::CHECKPOINT_AT + kept],
+    number::raw::put_bytes(
         history,
+        0,
+        &image[Image::CHECKPOINT_AT..Image::CHECKPOINT_AT + kept],
     );
-    bytes::copy(&image[log_from..log_from + lacked], &mut history[kept..]);
+    number::raw::put_bytes(history, kept, &image[log_from..log_from + lacked]);
     raw::zero(history, kept + lacked, Image::HISTORY_LEN);
 }
 

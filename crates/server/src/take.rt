@@ -8,13 +8,13 @@ ghost use Rattle.rules.specs.Step.{taken};
 ghost use Rattle.server.specs.Forms.{Listed, takes_of, seen, ahead};
 
 use notes::index::ServerId;
-use notes::record;
 use notes::record::Record;
 use notes::vector::Vector;
+use notes::{number, record};
 use rules::answer::{Refusal, Verdict};
 
 // How many writes are new, V after them, and the refusal that ended them if any.
-#[derive(Drop)]
+#[derive(Clone, Copy)]
 pub struct Takes {
     pub new: usize,
     pub vector: Vector,
@@ -86,7 +86,7 @@ pub(crate) fn append(history: &mut [u8], held: usize, b: &[u8], count: usize, v:
         k += 1;
         if vector.counts[o] < number {
             vector.counts[o] = number;
-            bytes::copy(&b[at..at + Record::LEN], &mut history[end..]);
+            number::raw::put_bytes(history, end, &b[at..at + Record::LEN]);
             end += Record::LEN;
         }
     }

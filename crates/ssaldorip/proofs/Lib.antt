@@ -6,4 +6,3 @@ pub mod Called
 pub mod Requested
 pub mod Reported
 pub mod Stateless
-pub mod Unique

@@ -8,7 +8,7 @@ use crate::steps::TOO_SHORT;
 use notes::index::ServerId;
 use notes::message::{Checked, Refusal, Written};
 use notes::record::Record;
-use notes::{message, reader};
+use notes::{message, number, reader};
 
 // A refusal of `notes` in document 01's numbers.
 pub(crate) fn number(k: Refusal) -> u32
@@ -69,6 +69,6 @@ pub extern "C" fn ssaldorip_message_next(message: &[u8], at: usize, record: &mut
     }
     let write = read.write;
     let bytes = write.to_bytes();
-    bytes::copy(&bytes, record);
+    number::raw::put_bytes(record, 0, &bytes);
     reader::place_after(message, at)
 }

@@ -3,6 +3,8 @@ ghost use Rattle.std.specs.Prelude.{◌+◌, ◌*◌, ◌≤◌, length};
 ghost use mathlib.Core.List.{flat_map};
 ghost use Rattle.text.specs.Text.{digits_most, decimal, spaced, Stored};
 
+use notes::number;
+
 // The most digits that a number has.
 pub(crate) const DIGITS: usize = 10;
 
@@ -11,7 +13,7 @@ pub(crate) fn put_text(out: &mut [u8], at: usize, t: &[u8]) -> usize
     requires { at + length t.now ≤ length out.old }
     ensures { Stored out.old at t.now result out.new }
 {
-    bytes::copy(t, &mut out[at..]);
+    number::raw::put_bytes(out, at, t);
     at + t.len()
 }
 

@@ -31,5 +31,5 @@ pub fn put_message(out: &mut [u8], n: u8, sender: ServerId, records: &[u8])
     ensures { out.new ≡ message_of n sender (records_in records.now) ++ drop (header_size + length records.now) out.old }
 {
     put_header(out, n, sender, records.len() / Record::LEN);
-    bytes::copy(records, &mut out[Header::LEN..]);
+    number::raw::put_bytes(out, Header::LEN, records);
 }

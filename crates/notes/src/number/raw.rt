@@ -62,6 +62,14 @@ pub fn put_u8(out: &mut [u8], at: usize, x: u8)
     out[at] = x;
 }
 
+// Bytes stored from a place on.
+pub fn put_bytes(out: &mut [u8], at: usize, from: &[u8])
+    requires { at + length from.now ≤ length out.old }
+    ensures { out.new ≡ sets out.old at from.now }
+{
+    out[at..at + from.len()].copy_from_slice(from);
+}
+
 // A number's two bytes stored from a place on.
 pub fn put_u16(out: &mut [u8], at: usize, x: u16)
     requires { at + 2 ≤ length out.old }

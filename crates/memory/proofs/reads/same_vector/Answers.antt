@@ -1,0 +1,22 @@
+-- `reads::same_vector` meets its contract. The invariant: the positions passed are the same.
+-- Assumes nothing.
+use Prim.Native.Nat.{◌≤◌, ◌-◌}
+use mathlib.Core.Path.{◌≡◌, sym, ◌∙◌}
+use native.Mathlib.Omega.{arith}
+use lib.ListN.{length, take}
+use Rattle.notes.specs.Lists.{same}
+use Rattle.memory.proofs.Runs.{same_more, same-all}
+use borrow.Author.Rules.{rules}
+use Rattle.memory.proofs.reads.same_vector.Goals as goal
+
+pub loop-i-init : goal.loop-i-init
+unfolding same
+loop-i-init c =
+    search rules
+
+pub loop-i-preserved : goal.loop-i-preserved
+loop-i-preserved c =
+    let eight : length c.args.t1.counts ≡ 8 = search rules in
+    let alike : length c.args.t1.counts ≡ length c.args.t2.counts = let other : length c.args.t2.counts ≡ 8 = search rules in
+    eight ∙ sym other in
+    (search rules, rw c.loop-i.invariant.1 (sym (same_more c.args.t1.counts c.args.t2.counts alike c.loop-i.i (search rules))))

@@ -1,0 +1,15 @@
+-- `walk::same` meets its contract. The invariant: the bytes passed are the same.
+-- Assumes nothing.
+use Prim.Native.Nat.{◌≤◌, ◌-◌}
+use mathlib.Core.Path.{◌≡◌, sym, ◌∙◌}
+use lib.ListN.{length, take}
+use Rattle.notes.specs.Lists.{same}
+use Rattle.memory.proofs.Runs.{same_none, same_more, same-all}
+use borrow.Author.Rules.{rules}
+use Rattle.memory.proofs.walk.same.Given as goal
+
+abbrev pub invariant-loop-i : goal.invariant-loop-i
+invariant-loop-i l = (l.i ≤ length l.a) × (l.equal ≡ same (take l.i l.a) (take l.i l.b))
+
+abbrev pub decreases-loop-i : goal.decreases-loop-i
+decreases-loop-i l = length l.a - l.i

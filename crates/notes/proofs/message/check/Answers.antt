@@ -1,0 +1,58 @@
+-- `message::check` meets its contract: a message is right exactly if its header suits it and its records are well formed.
+-- Assumes nothing.
+use mathlib.Core.Path.{sym, ◌∙◌}
+use native.Mathlib.Omega.{arith}
+use borrow.Author.Tests.{not-true, not-false}
+use Rattle.notes.specs.Message.{header_size}
+use Rattle.notes.proofs.Lists.{rest}
+use Rattle.notes.proofs.Messages.{Suits, suits, server-facts, n-at, check-no-header, check-no-record, check-passed}
+use borrow.Author.Rules.{rules}
+use Rattle.notes.proofs.message.check.Goals as goal
+
+pub returns-then-not-header_ok : goal.returns-then-not-header_ok
+returns-then-not-header_ok c =
+    sym
+    (check-no-header c.args.m.now (λ i. (c.type_inv.m i).fits) (sym c.header_ok.ensures ∙ c.if-not-header_ok.true))
+
+pub bounds-m-0 : goal.bounds-m-0
+bounds-m-0 c =
+    let fine : Suits c.args.m.now = suits c.args.m.now (sym c.header_ok.ensures ∙ c.if-not-header_ok.false) in
+    let s = fine in omega arith
+
+pub slice_bounds-all_well_formed-count : goal.slice_bounds-all_well_formed-count
+slice_bounds-all_well_formed-count c =
+    let fine : Suits c.args.m.now = suits c.args.m.now (sym c.header_ok.ensures ∙ c.if-not-header_ok.false) in
+    let s = fine in omega arith
+
+pub slice_bounds-all_well_formed-start : goal.slice_bounds-all_well_formed-start
+slice_bounds-all_well_formed-start c =
+    let fine : Suits c.args.m.now = suits c.args.m.now (sym c.header_ok.ensures ∙ c.if-not-header_ok.false) in
+    let s = fine in omega arith
+
+pub all_well_formed-requires : goal.all_well_formed-requires
+all_well_formed-requires c =
+    let fine : Suits c.args.m.now = suits c.args.m.now (sym c.header_ok.ensures ∙ c.if-not-header_ok.false) in
+    let s = server-facts _ _ fine.server in omega (arith, n-at c.args.m.now)
+
+pub returns-then-not-all_well_formed : goal.returns-then-not-all_well_formed
+returns-then-not-all_well_formed c =
+    let m = c.args.m.now in
+    let e = rw (rest header_size m) at c.all_well_formed.ensures in
+    sym (check-no-record m (λ i. (c.type_inv.m i).fits) (sym e ∙ c.if-not-all_well_formed.true))
+
+pub bounds-m-1 : goal.bounds-m-1
+bounds-m-1 c =
+    let fine : Suits c.args.m.now = suits c.args.m.now (sym c.header_ok.ensures ∙ c.if-not-header_ok.false) in
+    let s = fine in omega arith
+
+pub overflow_sub-result : goal.overflow_sub-result
+overflow_sub-result c =
+    let fine : Suits c.args.m.now = suits c.args.m.now (sym c.header_ok.ensures ∙ c.if-not-header_ok.false) in
+    let s = fine in omega arith
+
+pub returns : goal.returns
+returns c =
+    let m = c.args.m.now in
+    let e = rw (rest header_size m) at c.all_well_formed.ensures in
+    sym
+    (check-passed m (λ i. (c.type_inv.m i).fits) (sym c.header_ok.ensures ∙ c.if-not-header_ok.false) (sym e ∙ c.if-not-all_well_formed.false))

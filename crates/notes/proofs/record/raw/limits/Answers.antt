@@ -1,0 +1,32 @@
+-- `record::raw::limits` meets its contract. The invariant: the positions passed are the limits, the others zero.
+-- Assumes nothing.
+use Prim.Native.Nat.{◌≤◌, ◌-◌}
+use mathlib.Core.Path.{◌≡◌, refl, sym, ap, ◌∙◌}
+use mathlib.Core.List.{◌++◌}
+use native.Mathlib.Omega.{arith}
+use lib.ListN.{length, take, drop}
+use Rattle.notes.specs.Vector.{vector, zeros}
+use Rattle.notes.specs.Forms.{limits_of}
+use Rattle.notes.specs.declared.vector.Vector.{Vector}
+use Rattle.notes.proofs.Lists.{copied_more, copied_all}
+use Rattle.notes.proofs.Vectors.{limit-at, length-limits}
+use borrow.Author.Rules.{rules}
+use Rattle.notes.proofs.record.raw.limits.Goals as goal
+
+pub loop-i-preserved : goal.loop-i-preserved
+loop-i-preserved c =
+    let l = c.loop-i in
+    let n = c.args.n in
+    let limit = c.limit.ensures ∙ sym (limit-at n l.i (search rules)) in
+    let len = length-limits n in (
+      search rules,
+      rw (l.invariant.1, limit) (copied_more (limits_of n).counts zeros.counts l.i 0 (omega arith) (search rules)),
+      search rules,
+    )
+
+pub returns : goal.returns
+returns c =
+    let l = c.loop-i in
+    let n = c.args.n in
+    let eight = length-limits n in
+    ap vector (l.invariant.1 ∙ copied_all (limits_of n).counts zeros.counts l.i (omega arith) (search rules))

@@ -1,0 +1,21 @@
+-- `Vector::raised` meets its contract: past the eight positions a store changes nothing.
+-- Assumes nothing.
+use mathlib.Core.Path.{◌≡◌, ap, sym}
+use native.Mathlib.Omega.{arith}
+use lib.ListN.{length}
+use lib.Seq.{set_out}
+use Rattle.notes.specs.Vector.{vector, raised}
+use borrow.Author.Rules.{rules}
+use Rattle.notes.proofs.vector.Vector.raised.Goals as goal
+
+pub returns-then-i-lt-LEN : goal.returns-then-i-lt-LEN
+unfolding raised
+returns-then-i-lt-LEN c =
+    rw c.greater.ensures
+
+pub returns-else-i-lt-LEN : goal.returns-else-i-lt-LEN
+unfolding raised
+returns-else-i-lt-LEN c =
+    let a = c.args in
+    let l : length a.t1.counts ≡ 8 = search rules in
+    ap vector (sym (set_out a.t1.counts a.s.0 _ (omega arith)))

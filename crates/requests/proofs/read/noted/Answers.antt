@@ -1,0 +1,16 @@
+-- `read::noted` meets its contract: as it was, or with the phone's bit and count.
+-- Assumes nothing.
+use mathlib.Core.Path.{sym, ◌∙◌}
+use Rattle.rules.specs.Request.{noted}
+use borrow.Author.Rules.{rules}
+use Rattle.requests.proofs.read.noted.Goals as goal
+
+pub returns-then-is_in : goal.returns-then-is_in
+unfolding noted
+returns-then-is_in c =
+    λ cell. rw (sym c.is_in.ensures ∙ c.if-is_in.true)
+
+pub returns : goal.returns
+unfolding noted
+returns c =
+    λ cell. rw (sym c.is_in.ensures ∙ c.if-is_in.false, c.with_phone.ensures, c.with-t.ensures)

@@ -1,0 +1,27 @@
+-- `recover::put_recovered` meets its contract: two copies, one behind the other, and zeros.
+-- Assumes nothing.
+use Prim.Native.Nat.{◌+◌, ◌-◌, ◌*◌}
+use mathlib.Core.Path.{◌≡◌, ◌∙◌}
+use native.Mathlib.Omega.{arith}
+use Rattle.notes.specs.Record.{record_size}
+use Rattle.rules.specs.Image.{history_size, checkpoint_at, log_place}
+use Rattle.server.proofs.Recovering.{put-parts}
+use borrow.Author.Rules.{rules}
+use Rattle.server.proofs.recover.put_recovered.Goals as goal
+
+pub returns : goal.returns
+returns c =
+    let a = c.args in
+    let k = record_size * a.counts.checkpoint in
+    let j = record_size * a.added in
+    let p = log_place (a.counts.log - a.added) in
+    let rest : history_size - (k + j) ≡ history_size - record_size * (a.counts.checkpoint + a.added) = omega arith in
+    put-parts checkpoint_at k p j history_size a.image.now a.history.now c.put_bytes.last.1.0 c.put_bytes-2.last.1.0 _
+    (omega (arith, c.requires.image, c.requires.few))
+    (omega (arith, c.requires.image, c.requires.fits, c.requires.logged))
+    (omega (arith, c.requires.few))
+    c.requires.history
+    c.put_bytes.ensures.1
+    c.put_bytes-2.ensures.1
+    c.zero.ensures
+    ∙ rw rest
