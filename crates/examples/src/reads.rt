@@ -3,9 +3,10 @@ use crate::act;
 use crate::act::{History, Stored};
 
 pub(crate) fn one(history: &mut History, image: &mut Stored) {
-    let fresh = act::begin(b"1 start, N and own number", 2, 0, history, image);
-    let wrote = act::write(b"1 phone 5 writes cell 300", fresh, 7, history, image);
+    let fresh = act::begin(to, b"1 start, N and own number", 2, 0, history, image);
+    let wrote = act::write(to, b"1 phone 5 writes cell 300", fresh, 7, history, image);
     let refused = act::read(
+        to,
         b"1 phone 5 reads with",
         wrote,
         5,
@@ -14,6 +15,7 @@ pub(crate) fn one(history: &mut History, image: &mut Stored) {
         image,
     );
     act::read(
+        to,
         b"1 phone 5 reads with",
         refused,
         5,
@@ -24,9 +26,10 @@ pub(crate) fn one(history: &mut History, image: &mut Stored) {
 }
 
 pub(crate) fn four(history: &mut History, image: &mut Stored) {
-    let fresh = act::begin(b"4 start, N and own number", 2, 0, history, image);
-    let wrote = act::write(b"4 phone 5 writes", fresh, 7, history, image);
+    let fresh = act::begin(to, b"4 start, N and own number", 2, 0, history, image);
+    let wrote = act::write(to, b"4 phone 5 writes", fresh, 7, history, image);
     let first = act::read(
+        to,
         b"4 phone 5 reads with",
         wrote,
         5,
@@ -35,6 +38,7 @@ pub(crate) fn four(history: &mut History, image: &mut Stored) {
         image,
     );
     act::read(
+        to,
         b"4 phone 5 reads again with",
         first,
         5,
@@ -45,8 +49,9 @@ pub(crate) fn four(history: &mut History, image: &mut Stored) {
 }
 
 pub(crate) fn five(history: &mut History, image: &mut Stored) {
-    let fresh = act::begin(b"5 start, N and own number", 2, 0, history, image);
+    let fresh = act::begin(to, b"5 start, N and own number", 2, 0, history, image);
     let first = act::read(
+        to,
         b"5 phone 5 reads with",
         fresh,
         5,
@@ -54,8 +59,9 @@ pub(crate) fn five(history: &mut History, image: &mut Stored) {
         history,
         image,
     );
-    let wrote = act::write(b"5 phone 5 writes", first, 7, history, image);
+    let wrote = act::write(to, b"5 phone 5 writes", first, 7, history, image);
     act::read(
+        to,
         b"5 phone 5 reads again with",
         wrote,
         5,
@@ -66,8 +72,9 @@ pub(crate) fn five(history: &mut History, image: &mut Stored) {
 }
 
 pub(crate) fn six(history: &mut History, image: &mut Stored) {
-    let fresh = act::begin(b"6 start, N and own number", 2, 0, history, image);
+    let fresh = act::begin(to, b"6 start, N and own number", 2, 0, history, image);
     let first = act::read(
+        to,
         b"6 phone 5 reads with",
         fresh,
         5,
@@ -76,6 +83,7 @@ pub(crate) fn six(history: &mut History, image: &mut Stored) {
         image,
     );
     let second = act::read(
+        to,
         b"6 phone 5 reads again with",
         first,
         5,
@@ -83,8 +91,9 @@ pub(crate) fn six(history: &mut History, image: &mut Stored) {
         history,
         image,
     );
-    let wrote = act::write(b"6 phone 5 writes", second, 7, history, image);
+    let wrote = act::write(to, b"6 phone 5 writes", second, 7, history, image);
     act::read(
+        to,
         b"6 phone 6 reads with",
         wrote,
         6,
