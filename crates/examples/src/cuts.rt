@@ -3,9 +3,10 @@ use crate::act;
 use crate::act::{History, Stored};
 use notes::vector::Vector;
 use rules::event::Request;
+use std::io::Stdout;
 
 // The first write cut after k stores.
-pub(crate) fn seven(k: u32, history: &mut History, image: &mut Stored) {
+pub(crate) fn seven(to: Stdout, k: u32, history: &mut History, image: &mut Stored) {
     let fresh = act::begin(to, b"7 start, N and own number", 2, 0, history, image);
     let down = act::cut_after(
         to,
@@ -21,7 +22,7 @@ pub(crate) fn seven(k: u32, history: &mut History, image: &mut Stored) {
 }
 
 // Example 4's checkpoint cut after k stores.
-pub(crate) fn eight(k: u32, history: &mut History, image: &mut Stored) {
+pub(crate) fn eight(to: Stdout, k: u32, history: &mut History, image: &mut Stored) {
     let fresh = act::begin(to, b"8 start, N and own number", 2, 0, history, image);
     let wrote = act::write(to, b"8 phone 5 writes", fresh, 7, history, image);
     let first = act::read(

@@ -1,8 +1,9 @@
 // Examples 1 and 4 to 6: reads at one server.
 use crate::act;
 use crate::act::{History, Stored};
+use std::io::Stdout;
 
-pub(crate) fn one(history: &mut History, image: &mut Stored) {
+pub(crate) fn one(to: Stdout, history: &mut History, image: &mut Stored) {
     let fresh = act::begin(to, b"1 start, N and own number", 2, 0, history, image);
     let wrote = act::write(to, b"1 phone 5 writes cell 300", fresh, 7, history, image);
     let refused = act::read(
@@ -25,7 +26,7 @@ pub(crate) fn one(history: &mut History, image: &mut Stored) {
     );
 }
 
-pub(crate) fn four(history: &mut History, image: &mut Stored) {
+pub(crate) fn four(to: Stdout, history: &mut History, image: &mut Stored) {
     let fresh = act::begin(to, b"4 start, N and own number", 2, 0, history, image);
     let wrote = act::write(to, b"4 phone 5 writes", fresh, 7, history, image);
     let first = act::read(
@@ -48,7 +49,7 @@ pub(crate) fn four(history: &mut History, image: &mut Stored) {
     );
 }
 
-pub(crate) fn five(history: &mut History, image: &mut Stored) {
+pub(crate) fn five(to: Stdout, history: &mut History, image: &mut Stored) {
     let fresh = act::begin(to, b"5 start, N and own number", 2, 0, history, image);
     let first = act::read(
         to,
@@ -71,7 +72,7 @@ pub(crate) fn five(history: &mut History, image: &mut Stored) {
     );
 }
 
-pub(crate) fn six(history: &mut History, image: &mut Stored) {
+pub(crate) fn six(to: Stdout, history: &mut History, image: &mut Stored) {
     let fresh = act::begin(to, b"6 start, N and own number", 2, 0, history, image);
     let first = act::read(
         to,
