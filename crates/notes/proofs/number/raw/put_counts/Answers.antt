@@ -21,5 +21,5 @@ loop-i-preserved c =
     let a = c.args in (
       search rules,
       c.put_u16.ensures ∙ rw l.invariant.1 (counts-stored a.xs.now l.i (search rules) a.out.now a.at),
-      c.put_u16.kept.0 ∙ l.invariant.2,
+      search rules,
     )

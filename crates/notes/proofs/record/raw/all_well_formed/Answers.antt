@@ -23,14 +23,14 @@ pub returns-then-not-well_formed : goal.returns-then-not-well_formed
 returns-then-not-well_formed c =
     let a = c.args in
     let l = c.loop-k in
-    let e = rw add-sub_cancel_left at c.well-formed.ensures in
+    let e = rw add-sub_cancel_left at c.well_formed-in-loop-k.ensures in
     sym (all-fails (well_formed a.n) (length a.b.now / 28) a.b.now l.k (search rules) (sym e ∙ c.if-not-well_formed.true))
 
 pub loop-k-preserved : goal.loop-k-preserved
 loop-k-preserved c =
     let a = c.args in
     let l = c.loop-k in
-    let e = rw add-sub_cancel_left at c.well-formed.ensures in (
+    let e = rw add-sub_cancel_left at c.well_formed-in-loop-k.ensures in (
       search rules,
       all_more (well_formed a.n) (length a.b.now / 28) a.b.now l.k (search rules) l.invariant.1 (sym e ∙ c.if-not-well_formed.false),
     )

@@ -13,4 +13,4 @@ pub returns : goal.returns
 returns c =
     let l = c.loop-i in
     let a = c.args in
-    rw l.invariant.1 (sum-all a.t1 (search rules) l.i c.loop-i-test.false)
+    rw l.invariant.1 (sum-all a.self (search rules) l.i c.loop-i-test.false)
