@@ -8,7 +8,7 @@ use native.Mathlib.Omega.{arith}
 use borrow.Author.Tests.{ltb-true, ltb-false, lt-ltb, le-ltb, eq-eqb, ne_eqb}
 use lib.Dec.{ltb, leb, eqb}
 use lib.ListN.{length, get_or, take, drop, length-drop, length-map, get_or-map, replicate, length-replicate, set}
-use lib.Seq.{get_or-drop, drop-drop, take_all, take-length, sets, sets-eq}
+use lib.Seq.{get_or-drop, take_all, take-length, sets, sets-eq}
 use Rattle.notes.specs.Lists.{every}
 use Rattle.notes.specs.Index.{servers, phones}
 use Rattle.notes.specs.Bytes.{field, from_bytes, to_bytes, pieces}

@@ -1,10 +1,8 @@
 -- `reader::first_place` meets its contract: the answer of the check picks the place.
 -- Assumes nothing.
-use mathlib.Core.Path.{sym, ap, ◌∙◌}
-use Rattle.notes.specs.Message.{checked_reply}
+use mathlib.Core.Path.{sym}
 use Rattle.notes.proofs.Answers.{update-right, refused-wrong}
 use Rattle.notes.proofs.Reading.{first-right, first-refused, check-right, check-refused}
-use borrow.Author.Rules.{rules}
 use Rattle.notes.proofs.reader.first_place.Goals as goal
 
 pub returns-in-Update : goal.returns-in-Update

@@ -1,9 +1,6 @@
 -- `message::raw::put_message` meets its contract: a header, and the records behind it.
 -- Assumes nothing.
-use mathlib.Core.Path.{◌∙◌}
-use Rattle.notes.proofs.Lists.{put_rest}
 use Rattle.notes.proofs.Messages.{message-stored}
-use borrow.Author.Rules.{rules}
 use Rattle.notes.proofs.message.raw.put_message.Goals as goal
 
 pub returns : goal.returns

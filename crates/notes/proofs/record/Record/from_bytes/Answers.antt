@@ -3,7 +3,6 @@
 use mathlib.Core.Path.{◌∙◌}
 use Rattle.notes.proofs.Records.{decode-set}
 use native.Mathlib.Omega.{arith}
-use borrow.Author.Rules.{rules}
 use Rattle.notes.proofs.record.Record.from_bytes.Goals as goal
 
 pub returns : goal.returns

@@ -1,10 +1,6 @@
 -- `Vector::is_behind` meets its contract. The invariant: the flag is the test over the positions passed.
 -- Assumes nothing.
-use Prim.Native.Nat.{◌≤◌, ◌-◌}
-use mathlib.Core.Path.{◌≡◌, sym}
-use mathlib.Core.List.{zip_with}
-use lib.Dec.{ltb}
-use lib.ListN.{take}
+use mathlib.Core.Path.{sym}
 use Rattle.notes.specs.Lists.{any}
 use Rattle.notes.proofs.Vectors.{behind_more, behind-all}
 use borrow.Author.Rules.{rules}

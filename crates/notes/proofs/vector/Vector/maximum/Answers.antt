@@ -1,10 +1,8 @@
 -- `Vector::maximum` meets its contract. The invariant: the positions passed are the maximum's, the others this vector's.
 -- Assumes nothing.
-use Prim.Native.Nat.{◌≤◌, ◌-◌}
-use mathlib.Core.Path.{◌≡◌, refl, ap, ◌∙◌}
-use mathlib.Core.List.{◌++◌}
+use mathlib.Core.Path.{◌≡◌, ap, ◌∙◌}
 use native.Mathlib.Omega.{arith}
-use lib.ListN.{length, take, drop}
+use lib.ListN.{length}
 use Rattle.notes.specs.Vector.{vector, maximum as maximum_of}
 use Rattle.notes.proofs.Vectors.{maximum-more, length-maximum}
 use Rattle.notes.proofs.Lists.{copied_all}
