@@ -17,23 +17,21 @@ pub returns-in-Refused : goal.returns-in-Refused
 unfolding recovery
 returns-in-Refused c =
     let found : Memory = memory c.args.s c.args.history.now c.args.image.now in
-    let told : verdict_refusal c.or_elsewhere.result ≡ first (plain_refusals found c.args.s.up c.args.at) = c.or_elsewhere.ensures ∙ plain-told found c.args.at c.args.s.up _ c.down_head-told.ensures in
-    rw (c.refused.ensures, sym told ∙ ap verdict_refusal c.k-1.given.1)
+    rw (c.refused.ensures, sym (c.in-Refused.ensures ∙ plain-told found c.args.at c.args.s.up _ c.down_head-told.ensures))
 
 pub recover-requires : goal.recover-requires
 unfolding plain_refusals
 recover-requires c =
     let found : Memory = memory c.args.s c.args.history.now c.args.image.now in
     let told : verdict_refusal c.or_elsewhere.result ≡ first (plain_refusals found c.args.s.up c.args.at) = c.or_elsewhere.ensures ∙ plain-told found c.args.at c.args.s.up _ c.down_head-told.ensures in
-    let passed : first (plain_refusals found c.args.s.up c.args.at) ≡ none = sym told ∙ ap verdict_refusal c.enum_told-1.given.1 in
+    let passed : first (plain_refusals found c.args.s.up c.args.at) ≡ none = sym told ∙ ap verdict_refusal c.in_default.is in
     let a = c.args in
     let rest = here_refusals found a.at in
-    let none-given = passed in
-    let h = head-known found a.s.up rest none-given in
+    let h = head-known found a.s.up rest passed in
     record {
       history = h.history;
       image = h.image;
-      suits = down-suits a.s a.history.now a.image.now (head-right found a.s.up rest none-given) h.sound;
+      suits = down-suits a.s a.history.now a.image.now (head-right found a.s.up rest passed) h.sound;
     }
 
 pub returns : goal.returns
@@ -41,5 +39,5 @@ unfolding recovery recover
 returns c =
     let found : Memory = memory c.args.s c.args.history.now c.args.image.now in
     let told : verdict_refusal c.or_elsewhere.result ≡ first (plain_refusals found c.args.s.up c.args.at) = c.or_elsewhere.ensures ∙ plain-told found c.args.at c.args.s.up _ c.down_head-told.ensures in
-    let passed : first (plain_refusals found c.args.s.up c.args.at) ≡ none = sym told ∙ ap verdict_refusal c.enum_told-1.given.1 in
+    let passed : first (plain_refusals found c.args.s.up c.args.at) ≡ none = sym told ∙ ap verdict_refusal c.in_default.is in
     rw (c.finished.ensures, passed) (ap finished c.recover.ensures)

@@ -13,32 +13,32 @@ unfolding step
 returns-in-Request c =
     let made : What → Effect = (λ w. let a = c.args in
     happens (memory a.s a.history.now a.image.now) a.e.server w a.asked a.message.now) in
-    c.request.ensures ∙ ap made (sym c.what-1.given.1)
+    c.request.ensures ∙ ap made (sym c.in-Request.is)
 
 pub returns-in-RequestCut : goal.returns-in-RequestCut
 unfolding step
 returns-in-RequestCut c =
     let made : What → Effect = (λ w. let a = c.args in
     happens (memory a.s a.history.now a.image.now) a.e.server w a.asked a.message.now) in
-    c.request_cut.ensures ∙ ap made (sym c.what-in-RequestCut-1.given.1)
+    c.request_cut.ensures ∙ ap made (sym c.in-RequestCut.is)
 
 pub returns-in-Cut : goal.returns-in-Cut
 unfolding step
 returns-in-Cut c =
     let made : What → Effect = (λ w. let a = c.args in
     happens (memory a.s a.history.now a.image.now) a.e.server w a.asked a.message.now) in
-    c.cut.ensures ∙ ap made (sym c.enum_told-1.given.1)
+    c.cut.ensures ∙ ap made (sym c.in-Cut.is)
 
 pub returns-in-Update : goal.returns-in-Update
 unfolding step
 returns-in-Update c =
     let made : What → Effect = (λ w. let a = c.args in
     happens (memory a.s a.history.now a.image.now) a.e.server w a.asked a.message.now) in
-    c.update.ensures ∙ ap made (sym c.enum_told-in-Update-1.given.1)
+    c.update.ensures ∙ ap made (sym c.in-Update.is)
 
 pub returns-in-Recovery : goal.returns-in-Recovery
 unfolding step
 returns-in-Recovery c =
     let made : What → Effect = (λ w. let a = c.args in
     happens (memory a.s a.history.now a.image.now) a.e.server w a.asked a.message.now) in
-    c.recovery.ensures ∙ ap made (sym c.enum_told-in-Recovery-1.given.1)
+    c.recovery.ensures ∙ ap made (sym c.in-Recovery.is)

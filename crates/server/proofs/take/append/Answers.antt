@@ -39,9 +39,7 @@ loop-k-preserved-then-vector-o c =
     copied-room c.args.b.now c.args.count _ l.k l.vector l.history l.end l.invariant.2 c.loop-k-test.true higher in
     let a = c.args in
     let l = c.loop-k in
-    let part = take (record_size * l.k + record_size - record_size * l.k) (drop (record_size * l.k) a.b.now) in
-    let fits : l.end + length part ≤ length l.history = simp (add-sub_cancel_left, length-take, length-drop) (omega (arith, room)) in
-    let e = rw add-sub_cancel_left c (put_rest l.end l.history part c.put_bytes.last.1.0 fits c.put_bytes.ensures.1) in
+    let e = rw add-sub_cancel_left at c.put_bytes.ensures in
     rw (e, numbered) (
       search rules,
       rw length-sets l.invariant.1,
@@ -57,7 +55,7 @@ loop-k-preserved c =
       search rules,
       l.invariant.1,
       copied-skips c.args.b.now c.args.count _ l.k l.vector l.history l.end l.invariant.2 c.loop-k-test.true
-          (rw numbered c c.if-vector-o.false),
+          (rw numbered at c.if-vector-o.false),
     )
 
 pub returns : goal.returns
@@ -66,7 +64,11 @@ returns c =
     copied_all c.args.b.now c.args.count _ l.k l.vector l.history l.end l.invariant.2 c.loop-k-test.false
 
 pub bounds-vector-o : goal.bounds-vector-o
-bounds-vector-o c = ?
+bounds-vector-o c =
+    let listed : Listed c.args.b.now c.args.count = search in
+    listed-origin c.args.b.now c.args.count c.loop-k.k listed c.loop-k-test.true
 
 pub bounds-vector-o-then-vector-o : goal.bounds-vector-o-then-vector-o
-bounds-vector-o-then-vector-o c = ?
+bounds-vector-o-then-vector-o c =
+    let listed : Listed c.args.b.now c.args.count = search in
+    listed-origin c.args.b.now c.args.count c.loop-k.k listed c.loop-k-test.true

@@ -51,7 +51,7 @@ loop-k-preserved-then-known-number c =
     let higher : get_or c.loop-k.vector.counts origin 0 < number (this 0 c.args.count c.args.b.now c.loop-k.k) = rw numbered at c.if-known-number.true in
     let a = c.args in
     let l = c.loop-k in
-    let raised = rw add-sub_cancel_left c c.after-vector.ensures in (
+    let raised = rw add-sub_cancel_left at c.after-vector.ensures in (
       search rules,
       omega (arith, l.invariant.1),
       rw raised
@@ -69,7 +69,7 @@ loop-k-preserved c =
       search rules,
       omega (arith, l.invariant.1),
       l.invariant.2
-          ∙ rw (skips-at a.b.now a.count l.k l.vector a.own c.loop-k-test.true (rw numbered c c.if-known-number.false)),
+          ∙ rw (skips-at a.b.now a.count l.k l.vector a.own c.loop-k-test.true (rw numbered at c.if-known-number.false)),
     )
 
 pub returns : goal.returns

@@ -24,13 +24,13 @@ returns-in-Refused c =
     let found : Memory = memory c.args.s c.args.history.now c.args.image.now in
     rw (
       c.refused.ensures,
-      update-refused found c.args.at c.args.message.now _ (sym c.arrival.ensures ∙ ap verdict_refusal c.k-1.given.1),
+      update-refused found c.args.at c.args.message.now _ (sym c.in-Refused.ensures),
     )
 
 pub in_turn-found-requires : goal.in_turn-found-requires
 in_turn-found-requires c =
     let found : Memory = memory c.args.s c.args.history.now c.args.image.now in
-    let unrefused : first (arrival_refusals found c.args.at c.args.message.now) ≡ none = sym c.arrival.ensures ∙ ap verdict_refusal c.enum_told-1.given.1 in
+    let unrefused : first (arrival_refusals found c.args.at c.args.message.now) ≡ none = sym c.arrival.ensures ∙ ap verdict_refusal c.in_default.is in
     let here : Arrived found c.args.at c.args.message.now = arrived found c.args.at c.args.message.now unrefused in
     let origins : every origin_ok (brought c.args.message.now) ≡ true = arrived-origins found c.args.at c.args.message.now here in
     brought-listed c.args.message.now origins
@@ -38,22 +38,22 @@ in_turn-found-requires c =
 pub returns-in-Refused-refusal : goal.returns-in-Refused-refusal
 returns-in-Refused-refusal c =
     let found : Memory = memory c.args.s c.args.history.now c.args.image.now in
-    let unrefused : first (arrival_refusals found c.args.at c.args.message.now) ≡ none = sym c.arrival.ensures ∙ ap verdict_refusal c.enum_told-1.given.1 in
+    let unrefused : first (arrival_refusals found c.args.at c.args.message.now) ≡ none = sym c.arrival.ensures ∙ ap verdict_refusal c.in_default.is in
     let turns : Taken = taken_from found c.args.message.now in
     let gave : takes_of c.in_turn-found.result ≡ seen turns = rw (brought-at c.args.message.now) at c.in_turn-found.ensures in
     rw (
       c.refused-in-Refused-refusal.ensures,
-      update-stopped found c.args.at c.args.message.now unrefused _ (sym (ap (λ (x : Seen). x.refusal) gave) ∙ ap verdict_refusal c.refusal-1.given.1),
+      update-stopped found c.args.at c.args.message.now unrefused _ (sym (ap (λ (x : Seen). x.refusal) gave) ∙ ap verdict_refusal c.in-Refused-refusal.is),
     )
 
 pub returns-then-held-found : goal.returns-then-held-found
 returns-then-held-found c =
     let found : Memory = memory c.args.s c.args.history.now c.args.image.now in
-    let unrefused : first (arrival_refusals found c.args.at c.args.message.now) ≡ none = sym c.arrival.ensures ∙ ap verdict_refusal c.enum_told-1.given.1 in
+    let unrefused : first (arrival_refusals found c.args.at c.args.message.now) ≡ none = sym c.arrival.ensures ∙ ap verdict_refusal c.in_default.is in
     let turns : Taken = taken_from found c.args.message.now in
     let gave : takes_of c.in_turn-found.result ≡ seen turns = rw (brought-at c.args.message.now) at c.in_turn-found.ensures in
     let new : c.in_turn-found.result.new ≡ length turns.new = ap (λ (x : Seen). x.new) gave in
-    let fits : turns.refusal ≡ none = sym (ap (λ (x : Seen). x.refusal) gave) ∙ ap verdict_refusal c.enum_told-in_default-refusal-1.given.1 in
+    let fits : turns.refusal ≡ none = sym (ap (λ (x : Seen). x.refusal) gave) ∙ ap verdict_refusal c.in_default-refusal.is in
     rw (
       c.refused-then-held-found.ensures,
       update-full found c.args.at c.args.message.now unrefused fits (omega (arith, c.if-held-found.true, new)),
@@ -62,12 +62,12 @@ returns-then-held-found c =
 pub returns-then-found-eq0 : goal.returns-then-found-eq0
 returns-then-found-eq0 c =
     let found : Memory = memory c.args.s c.args.history.now c.args.image.now in
-    let unrefused : first (arrival_refusals found c.args.at c.args.message.now) ≡ none = sym c.arrival.ensures ∙ ap verdict_refusal c.enum_told-1.given.1 in
+    let unrefused : first (arrival_refusals found c.args.at c.args.message.now) ≡ none = sym c.arrival.ensures ∙ ap verdict_refusal c.in_default.is in
     let turns : Taken = taken_from found c.args.message.now in
     let gave : takes_of c.in_turn-found.result ≡ seen turns = rw (brought-at c.args.message.now) at c.in_turn-found.ensures in
     let new : c.in_turn-found.result.new ≡ length turns.new = ap (λ (x : Seen). x.new) gave in
     let vector : c.in_turn-found.result.vector ≡ turns.vector = ap (λ (x : Seen). x.vector) gave in
-    let fits : turns.refusal ≡ none = sym (ap (λ (x : Seen). x.refusal) gave) ∙ ap verdict_refusal c.enum_told-in_default-refusal-1.given.1 in
+    let fits : turns.refusal ≡ none = sym (ap (λ (x : Seen). x.refusal) gave) ∙ ap verdict_refusal c.in_default-refusal.is in
     let here : Arrived found c.args.at c.args.message.now = arrived found c.args.at c.args.message.now unrefused in
     let few : c.args.s.held ≤ history_most = arrived-few found c.args.at c.args.message.now here in
     let room : c.args.s.held + length turns.new ≤ history_most = omega (arith, few, c.if-held-found.false, new) in
@@ -82,11 +82,11 @@ returns-then-found-eq0 c =
 pub append-requires : goal.append-requires
 append-requires c =
     let found : Memory = memory c.args.s c.args.history.now c.args.image.now in
-    let unrefused : first (arrival_refusals found c.args.at c.args.message.now) ≡ none = sym c.arrival.ensures ∙ ap verdict_refusal c.enum_told-1.given.1 in
+    let unrefused : first (arrival_refusals found c.args.at c.args.message.now) ≡ none = sym c.arrival.ensures ∙ ap verdict_refusal c.in_default.is in
     let here : Arrived found c.args.at c.args.message.now = arrived found c.args.at c.args.message.now unrefused in
     let turns : Taken = taken_from found c.args.message.now in
     let gave : takes_of c.in_turn-found.result ≡ seen turns = rw (brought-at c.args.message.now) at c.in_turn-found.ensures in
-    let fits : turns.refusal ≡ none = sym (ap (λ (x : Seen). x.refusal) gave) ∙ ap verdict_refusal c.enum_told-in_default-refusal-1.given.1 in
+    let fits : turns.refusal ≡ none = sym (ap (λ (x : Seen). x.refusal) gave) ∙ ap verdict_refusal c.in_default-refusal.is in
     let few : c.args.s.held ≤ history_most = arrived-few found c.args.at c.args.message.now here in
     let new : c.in_turn-found.result.new ≡ length turns.new = ap (λ (x : Seen). x.new) gave in
     let room : c.args.s.held + length turns.new ≤ history_most = omega (arith, few, c.if-held-found.false, new) in
@@ -98,12 +98,12 @@ append-requires c =
 pub returns : goal.returns
 returns c =
     let found : Memory = memory c.args.s c.args.history.now c.args.image.now in
-    let unrefused : first (arrival_refusals found c.args.at c.args.message.now) ≡ none = sym c.arrival.ensures ∙ ap verdict_refusal c.enum_told-1.given.1 in
+    let unrefused : first (arrival_refusals found c.args.at c.args.message.now) ≡ none = sym c.arrival.ensures ∙ ap verdict_refusal c.in_default.is in
     let turns : Taken = taken_from found c.args.message.now in
     let gave : takes_of c.in_turn-found.result ≡ seen turns = rw (brought-at c.args.message.now) at c.in_turn-found.ensures in
     let new : c.in_turn-found.result.new ≡ length turns.new = ap (λ (x : Seen). x.new) gave in
     let vector : c.in_turn-found.result.vector ≡ turns.vector = ap (λ (x : Seen). x.vector) gave in
-    let fits : turns.refusal ≡ none = sym (ap (λ (x : Seen). x.refusal) gave) ∙ ap verdict_refusal c.enum_told-in_default-refusal-1.given.1 in
+    let fits : turns.refusal ≡ none = sym (ap (λ (x : Seen). x.refusal) gave) ∙ ap verdict_refusal c.in_default-refusal.is in
     let here : Arrived found c.args.at c.args.message.now = arrived found c.args.at c.args.message.now unrefused in
     let few : c.args.s.held ≤ history_most = arrived-few found c.args.at c.args.message.now here in
     let room : c.args.s.held + length turns.new ≤ history_most = omega (arith, few, c.if-held-found.false, new) in
@@ -120,7 +120,7 @@ returns c =
 pub overflow_sub-count : goal.overflow_sub-count
 overflow_sub-count c =
     let found : Memory = memory c.args.s c.args.history.now c.args.image.now in
-    let unrefused : first (arrival_refusals found c.args.at c.args.message.now) ≡ none = sym c.arrival.ensures ∙ ap verdict_refusal c.enum_told-1.given.1 in
+    let unrefused : first (arrival_refusals found c.args.at c.args.message.now) ≡ none = sym c.arrival.ensures ∙ ap verdict_refusal c.in_default.is in
     let here : Arrived found c.args.at c.args.message.now = arrived found c.args.at c.args.message.now unrefused in
     let long : header_size ≤ length c.args.message.now = arrived-long found c.args.at c.args.message.now here in
     omega (arith, long)
@@ -128,7 +128,7 @@ overflow_sub-count c =
 pub slice_bounds-in_turn-count : goal.slice_bounds-in_turn-count
 slice_bounds-in_turn-count c =
     let found : Memory = memory c.args.s c.args.history.now c.args.image.now in
-    let unrefused : first (arrival_refusals found c.args.at c.args.message.now) ≡ none = sym c.arrival.ensures ∙ ap verdict_refusal c.enum_told-1.given.1 in
+    let unrefused : first (arrival_refusals found c.args.at c.args.message.now) ≡ none = sym c.arrival.ensures ∙ ap verdict_refusal c.in_default.is in
     let here : Arrived found c.args.at c.args.message.now = arrived found c.args.at c.args.message.now unrefused in
     let long : header_size ≤ length c.args.message.now = arrived-long found c.args.at c.args.message.now here in
     omega (arith, long)
@@ -136,7 +136,7 @@ slice_bounds-in_turn-count c =
 pub slice_bounds-in_turn-start : goal.slice_bounds-in_turn-start
 slice_bounds-in_turn-start c =
     let found : Memory = memory c.args.s c.args.history.now c.args.image.now in
-    let unrefused : first (arrival_refusals found c.args.at c.args.message.now) ≡ none = sym c.arrival.ensures ∙ ap verdict_refusal c.enum_told-1.given.1 in
+    let unrefused : first (arrival_refusals found c.args.at c.args.message.now) ≡ none = sym c.arrival.ensures ∙ ap verdict_refusal c.in_default.is in
     let here : Arrived found c.args.at c.args.message.now = arrived found c.args.at c.args.message.now unrefused in
     let long : header_size ≤ length c.args.message.now = arrived-long found c.args.at c.args.message.now here in
     omega (arith, long)
@@ -144,7 +144,7 @@ slice_bounds-in_turn-start c =
 pub overflow_sub-held : goal.overflow_sub-held
 overflow_sub-held c =
     let found : Memory = memory c.args.s c.args.history.now c.args.image.now in
-    let unrefused : first (arrival_refusals found c.args.at c.args.message.now) ≡ none = sym c.arrival.ensures ∙ ap verdict_refusal c.enum_told-1.given.1 in
+    let unrefused : first (arrival_refusals found c.args.at c.args.message.now) ≡ none = sym c.arrival.ensures ∙ ap verdict_refusal c.in_default.is in
     let here : Arrived found c.args.at c.args.message.now = arrived found c.args.at c.args.message.now unrefused in
     let few : c.args.s.held ≤ history_most = arrived-few found c.args.at c.args.message.now here in
     omega (arith, few)
@@ -155,7 +155,7 @@ taken-next-requires c =
     let turns : Taken = taken_from found c.args.message.now in
     let gave : takes_of c.in_turn-found.result ≡ seen turns = rw (brought-at c.args.message.now) at c.in_turn-found.ensures in
     let new : c.in_turn-found.result.new ≡ length turns.new = ap (λ (x : Seen). x.new) gave in
-    let unrefused : first (arrival_refusals found c.args.at c.args.message.now) ≡ none = sym c.arrival.ensures ∙ ap verdict_refusal c.enum_told-1.given.1 in
+    let unrefused : first (arrival_refusals found c.args.at c.args.message.now) ≡ none = sym c.arrival.ensures ∙ ap verdict_refusal c.in_default.is in
     let here : Arrived found c.args.at c.args.message.now = arrived found c.args.at c.args.message.now unrefused in
     let few : c.args.s.held ≤ history_most = arrived-few found c.args.at c.args.message.now here in
     let room : c.args.s.held + length turns.new ≤ history_most = omega (arith, few, c.if-held-found.false, new) in
@@ -164,7 +164,7 @@ taken-next-requires c =
 pub slice_bounds-append-count : goal.slice_bounds-append-count
 slice_bounds-append-count c =
     let found : Memory = memory c.args.s c.args.history.now c.args.image.now in
-    let unrefused : first (arrival_refusals found c.args.at c.args.message.now) ≡ none = sym c.arrival.ensures ∙ ap verdict_refusal c.enum_told-1.given.1 in
+    let unrefused : first (arrival_refusals found c.args.at c.args.message.now) ≡ none = sym c.arrival.ensures ∙ ap verdict_refusal c.in_default.is in
     let here : Arrived found c.args.at c.args.message.now = arrived found c.args.at c.args.message.now unrefused in
     let long : header_size ≤ length c.args.message.now = arrived-long found c.args.at c.args.message.now here in
     omega (arith, long)
@@ -172,7 +172,7 @@ slice_bounds-append-count c =
 pub slice_bounds-append-start : goal.slice_bounds-append-start
 slice_bounds-append-start c =
     let found : Memory = memory c.args.s c.args.history.now c.args.image.now in
-    let unrefused : first (arrival_refusals found c.args.at c.args.message.now) ≡ none = sym c.arrival.ensures ∙ ap verdict_refusal c.enum_told-1.given.1 in
+    let unrefused : first (arrival_refusals found c.args.at c.args.message.now) ≡ none = sym c.arrival.ensures ∙ ap verdict_refusal c.in_default.is in
     let here : Arrived found c.args.at c.args.message.now = arrived found c.args.at c.args.message.now unrefused in
     let long : header_size ≤ length c.args.message.now = arrived-long found c.args.at c.args.message.now here in
     omega (arith, long)
