@@ -1,0 +1,13 @@
+-- `tell::list` is safe: the text that it writes lies within the output.
+-- Assumes nothing.
+use mathlib.Core.Path.{sym}
+use lib.Seq.{length-take-le}
+use Rattle.text.proofs.Lines.{listed-within}
+use Rattle.examples.proofs.tell.list.Goals as goal
+
+pub slice_bounds-out-end : goal.slice_bounds-out-end
+slice_bounds-out-end c = listed-within _ _ c.in-Bytes.k c.list-put.new.out c.in-Bytes.ensures
+
+pub slice_bounds-write_all-end : goal.slice_bounds-write_all-end
+slice_bounds-write_all-end c =
+    sym (length-take-le c.in-Bytes.k c.list-put.new.out (listed-within _ _ c.in-Bytes.k c.list-put.new.out c.in-Bytes.ensures))
