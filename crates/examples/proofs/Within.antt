@@ -7,7 +7,7 @@ use mathlib.Core.Path.{◌≡◌, ap, sym}
 use native.Mathlib.Omega.{arith}
 use lib.ListN.{length, get_or, drop, length-append}
 use lib.Seq.{length-take-le}
-use Rattle.io.specs.Counts.{IsPrefixLen}
+use Rattle.examples.specs.Counts.{IsPrefixLen}
 use Rattle.notes.specs.Reply.{Filled, first, fill}
 use Rattle.notes.specs.Message as notes
 use Rattle.notes.specs.declared.index.ServerId.{ServerId}

@@ -1,5 +1,5 @@
 // What examples need and is not told: writes one after the other, and messages.
-ghost use Rattle.io.specs.Counts.{IsPrefixLen};
+ghost use Rattle.examples.specs.Counts.{IsPrefixLen};
 
 use crate::act;
 use crate::act::{History, Stored};

@@ -1,5 +1,5 @@
 // Examples 2, 3 and 9: updates from other servers.
-ghost use Rattle.io.specs.Counts.{IsPrefixLen};
+ghost use Rattle.examples.specs.Counts.{IsPrefixLen};
 
 use crate::act::{History, Stored};
 use crate::{act, quiet, tell};

@@ -1,0 +1,2 @@
+-- The files of definitions.
+pub mod Counts
