@@ -9,3 +9,4 @@ pub mod Round
 pub mod Answers
 pub mod Reading
 pub mod Sessions
+pub mod Unique

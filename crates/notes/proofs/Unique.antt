@@ -1,0 +1,264 @@
+-- Any two outcomes that meet a public call's statement are equal: a theorem for each call, about the very clauses of its contract.
+-- Assumes nothing.
+use mathlib.Core.Path.{◌≡◌, refl, sym, ap, ◌∙◌}
+use mathlib.Core.List.{List}
+use Prim.Native.Nat.{ℕ}
+use Rattle.notes.specs.Reply.{Filled}
+use Rattle.notes.specs.Message.{filled}
+use Rattle.notes.specs.declared.message.Written.{Written}
+use Rattle.notes.specs.declared.reader.Item.{Item}
+use Rattle.notes.specs.declared.reader.Reader.{Reader}
+use Rattle.notes.proofs.Answers.{checked-known, written_known}
+use Rattle.notes.proofs.index.ServerId.is_one_of.Reads as is-one-of
+use Rattle.notes.proofs.number.wide32.Reads as wide32
+use Rattle.notes.proofs.number.past.Reads as past
+use Rattle.notes.proofs.vector.Vector.zero.Reads as zero
+use Rattle.notes.proofs.vector.Vector.at.Reads as at
+use Rattle.notes.proofs.vector.Vector.raised.Reads as raised
+use Rattle.notes.proofs.vector.Vector.maximum.Reads as maximum
+use Rattle.notes.proofs.vector.Vector.sum.Reads as sum
+use Rattle.notes.proofs.vector.Vector.is_behind.Reads as is-behind
+use Rattle.notes.proofs.vector.Vector.zero_from.Reads as zero-from
+use Rattle.notes.proofs.record.Record.from_bytes.Reads as from-bytes
+use Rattle.notes.proofs.record.Record.to_bytes.Reads as to-bytes
+use Rattle.notes.proofs.record.Record.number.Reads as number
+use Rattle.notes.proofs.record.Record.well_formed.Reads as well-formed
+use Rattle.notes.proofs.record.Record.beats.Reads as beats
+use Rattle.notes.proofs.message.check.Reads as check
+use Rattle.notes.proofs.message.write.Reads as write
+use Rattle.notes.proofs.reader.first_place.Reads as first-place
+use Rattle.notes.proofs.reader.read_at.Reads as read-at
+use Rattle.notes.proofs.reader.place_after.Reads as place-after
+use Rattle.notes.proofs.reader.left_from.Reads as left-from
+use Rattle.notes.proofs.reader.record_from.Reads as record-from
+use Rattle.notes.proofs.reader.Reader.new.Reads as reader
+use Rattle.notes.proofs.reader.Reader.next.Reads as next
+use Rattle.notes.proofs.reader.Reader.advance.Reads as advance
+use Rattle.notes.proofs.reader.Reader.left.Reads as left
+use Rattle.notes.proofs.reader.take.Reads as take
+use Rattle.notes.proofs.session.choose.Reads as choose
+use Rattle.notes.proofs.session.Choice.number.Reads as choice-number
+use Rattle.notes.proofs.session.Session.new.Reads as new
+use Rattle.notes.proofs.session.Session.read_carries.Reads as read-carries
+use Rattle.notes.proofs.session.Session.write_carries.Reads as write-carries
+use Rattle.notes.proofs.session.Session.after_read.Reads as after-read
+use Rattle.notes.proofs.session.Session.after_write.Reads as after-write
+use Rattle.notes.proofs.session.Session.raise.Reads as raise
+use Rattle.notes.proofs.session.Session.raise_written.Reads as raise-written
+use Rattle.notes.proofs.session.Session.carried.Reads as carried
+use Rattle.notes.proofs.session.raised_by.Reads as raised-by
+use Rattle.notes.proofs.session.raised_by_write.Reads as raised-by-write
+use Rattle.notes.proofs.number.raw.u16_at.Reads as raw-u16-at
+use Rattle.notes.proofs.number.raw.u32_at.Reads as raw-u32-at
+use Rattle.notes.proofs.number.raw.u64_at.Reads as raw-u64-at
+use Rattle.notes.proofs.number.raw.counts_at.Reads as raw-counts-at
+use Rattle.notes.proofs.number.raw.put_u8.Reads as raw-put-u8
+use Rattle.notes.proofs.number.raw.put_bytes.Reads as raw-put-bytes
+use Rattle.notes.proofs.number.raw.put_u16.Reads as raw-put-u16
+use Rattle.notes.proofs.number.raw.put_u32.Reads as raw-put-u32
+use Rattle.notes.proofs.number.raw.put_u64.Reads as raw-put-u64
+use Rattle.notes.proofs.number.raw.put_counts.Reads as raw-put-counts
+use Rattle.notes.proofs.record.raw.decoded.Reads as raw-decoded
+use Rattle.notes.proofs.record.raw.limits.Reads as raw-limits
+use Rattle.notes.proofs.record.raw.number_of.Reads as raw-number-of
+use Rattle.notes.proofs.record.raw.well_formed.Reads as raw-well-formed
+use Rattle.notes.proofs.record.raw.all_well_formed.Reads as raw-all-well-formed
+use Rattle.notes.proofs.vector.raw.vector_at.Reads as raw-vector-at
+use Rattle.notes.proofs.vector.raw.put_vector.Reads as raw-put-vector
+use Rattle.notes.proofs.message.raw.put_message.Reads as raw-put-message
+
+-- for the same lifetimes and arguments, `seen` of the result and of the parameters at exit is one
+abbrev pub One {ℓ κ μ ν} :
+    {K : Type ℓ} {A : K → Type κ} {R : K → Type μ} {S : K → Type ν} {O : Type 0}
+    → ((k : K) → A k → R k → S k → Type 0)
+    → ((k : K) → R k → S k → O)
+    → Type (ℓ ⊔ κ ⊔ μ ⊔ ν)
+One {K} {A} {R} {S} post seen = (k : K) (a : A k) (x y : R k) (s t : S k) → post k a x s → post k a y t → seen k x s ≡ seen k y t
+
+-- a call whose contract is an equation of its result
+equal : {A : Type 0} {x y d : A} → x ≡ d → y ≡ d → x ≡ y
+equal p q = p ∙ sym q
+
+pub is-one-of-one : One is-one-of.Post (λ k r s. r)
+is-one-of-one k a x y s t p q = equal p q
+
+pub wide32-one : One wide32.Post (λ k r s. r)
+wide32-one k a x y s t p q = equal p.0 q.0
+
+pub past-one : One past.Post (λ k r s. r)
+past-one k a x y s t p q = equal p.0 q.0
+
+pub zero-one : One zero.Post (λ k r s. r)
+zero-one k a x y s t p q = equal p q
+
+pub at-one : One at.Post (λ k r s. r)
+at-one k a x y s t p q = equal p q
+
+pub raised-one : One raised.Post (λ k r s. r)
+raised-one k a x y s t p q = equal p q
+
+pub maximum-one : One maximum.Post (λ k r s. r)
+maximum-one k a x y s t p q = equal p q
+
+pub sum-one : One sum.Post (λ k r s. r)
+sum-one k a x y s t p q = equal p q
+
+pub is-behind-one : One is-behind.Post (λ k r s. r)
+is-behind-one k a x y s t p q = equal p q
+
+pub zero-from-one : One zero-from.Post (λ k r s. r)
+zero-from-one k a x y s t p q = equal p q
+
+pub from-bytes-one : One from-bytes.Post (λ k r s. r)
+from-bytes-one k a x y s t p q = equal p q
+
+pub to-bytes-one : One to-bytes.Post (λ k r s. r)
+to-bytes-one k a x y s t p q = equal p q
+
+pub number-one : One number.Post (λ k r s. r)
+number-one k a x y s t p q = equal p q
+
+pub well-formed-one : One well-formed.Post (λ k r s. r)
+well-formed-one k a x y s t p q = equal p q
+
+pub beats-one : One beats.Post (λ k r s. r)
+beats-one k a x y s t p q = equal p q
+
+pub choose-one : One choose.Post (λ k r s. r)
+choose-one k a x y s t p q = equal p q
+
+pub choice-number-one : One choice-number.Post (λ k r s. r)
+choice-number-one k a x y s t p q = equal p q
+
+pub session-new-one : One new.Post (λ k r s. r)
+session-new-one k a x y s t p q = equal p q
+
+pub read-carries-one : One read-carries.Post (λ k r s. r)
+read-carries-one k a x y s t p q = equal p q
+
+pub write-carries-one : One write-carries.Post (λ k r s. r)
+write-carries-one k a x y s t p q = equal p q
+
+pub after-read-one : One after-read.Post (λ k r s. r)
+after-read-one k a x y s t p q = equal p q
+
+pub after-write-one : One after-write.Post (λ k r s. r)
+after-write-one k a x y s t p q = equal p q
+
+pub raised-by-one : One raised-by.Post (λ k r s. r)
+raised-by-one k a x y s t p q = equal p q
+
+pub raised-by-write-one : One raised-by-write.Post (λ k r s. r)
+raised-by-write-one k a x y s t p q = equal p q
+
+pub read-at-one : One read-at.Post (λ k r s. r)
+read-at-one k a x y s t p q = equal p q
+
+pub place-after-one : One place-after.Post (λ k r s. r)
+place-after-one k a x y s t p q = equal p q
+
+pub left-from-one : One left-from.Post (λ k r s. r)
+left-from-one k a x y s t p q = equal p q
+
+pub record-from-one : One record-from.Post (λ k r s. r)
+record-from-one k a x y s t p q = equal p q
+
+-- a check is known by its number and values
+pub check-one : One check.Post (λ k r s. r)
+check-one k a x y s t p q = checked-known x y (equal p q)
+
+-- a filled output by its number and values, and by its bytes
+pub filled-one : (x y : Written) (o u : List ℕ) → filled x o ≡ filled y u → ◌≡◌ {A = Written × List ℕ} (x, o) (y, u)
+filled-one x y o u e =
+    λ i. (written_known x y (ap (λ (f : Filled). f.reply) e) i, ap (λ (f : Filled). f.output) e i)
+
+pub write-one : One {O = Written × List ℕ} write.Post (λ k r s. (r, s.1.1.1.0.now))
+write-one k a x y s t p q = filled-one x y _ _ (equal p q)
+
+-- a place, and the code written
+pub first-place-one : One {O = ℕ × ℕ} first-place.Post (λ k r s. (r, s.1.0.now))
+first-place-one k a x y s t p q = λ i. (equal p.0 q.0 i, equal p.1 q.1 i)
+
+-- the reader, and the code written
+pub reader-new-one : One {O = Reader × ℕ} reader.Post (λ k r s. (r, s.1.0.now))
+reader-new-one k a x y s t p q = λ i. (record { message = equal p.0 q.0 i; at = equal p.1 q.1 i }, equal p.2 q.2 i)
+
+pub next-one : One next.Post (λ k r s. r)
+next-one k a x y s t p q = equal p q
+
+pub advance-one : One advance.Post (λ k r s. r)
+advance-one k a x y s t p q = λ i. record { message = equal p.0 q.0 i; at = equal p.1 q.1 i }
+
+pub left-one : One left.Post (λ k r s. r)
+left-one k a x y s t p q = equal p q
+
+-- the record, and the reader left
+pub take-one : One {O = Item × Reader} take.Post (λ k r s. (r, s.0.now))
+take-one k a x y s t p q =
+    λ i. (equal p.0 q.0 i, record { message = equal p.1.0 q.1.0 i; at = equal p.1.1 q.1.1 i })
+
+-- a session changed in place is known by its value at exit
+pub raise-one : One raise.Post (λ k r s. s.0.now)
+raise-one k a x y s t p q = equal p q
+
+pub raise-written-one : One raise-written.Post (λ k r s. s.0.now)
+raise-written-one k a x y s t p q = equal p q
+
+pub carried-one : One carried.Post (λ k r s. r)
+carried-one k a x y s t p q = equal p q
+
+-- ---- the raw ones: what they ask is that places are there
+
+pub raw-u16-at-one : One raw-u16-at.Post (λ k r s. r)
+raw-u16-at-one k a x y s t p q = equal p q
+
+pub raw-u32-at-one : One raw-u32-at.Post (λ k r s. r)
+raw-u32-at-one k a x y s t p q = equal p q
+
+pub raw-u64-at-one : One raw-u64-at.Post (λ k r s. r)
+raw-u64-at-one k a x y s t p q = equal p q
+
+pub raw-counts-at-one : One raw-counts-at.Post (λ k r s. s.1.1.0.now)
+raw-counts-at-one k a x y s t p q = equal p q
+
+pub raw-put-u8-one : One raw-put-u8.Post (λ k r s. s.0.now)
+raw-put-u8-one k a x y s t p q = equal p q
+
+pub raw-put-bytes-one : One raw-put-bytes.Post (λ k r s. s.0.now)
+raw-put-bytes-one k a x y s t p q = equal p q
+
+pub raw-put-u16-one : One raw-put-u16.Post (λ k r s. s.0.now)
+raw-put-u16-one k a x y s t p q = equal p q
+
+pub raw-put-u32-one : One raw-put-u32.Post (λ k r s. s.0.now)
+raw-put-u32-one k a x y s t p q = equal p q
+
+pub raw-put-u64-one : One raw-put-u64.Post (λ k r s. s.0.now)
+raw-put-u64-one k a x y s t p q = equal p q
+
+pub raw-put-counts-one : One raw-put-counts.Post (λ k r s. s.0.now)
+raw-put-counts-one k a x y s t p q = equal p q
+
+pub raw-decoded-one : One raw-decoded.Post (λ k r s. r)
+raw-decoded-one k a x y s t p q = equal p q
+
+pub raw-limits-one : One raw-limits.Post (λ k r s. r)
+raw-limits-one k a x y s t p q = equal p q
+
+pub raw-number-of-one : One raw-number-of.Post (λ k r s. r)
+raw-number-of-one k a x y s t p q = equal p q
+
+pub raw-well-formed-one : One raw-well-formed.Post (λ k r s. r)
+raw-well-formed-one k a x y s t p q = equal p q
+
+pub raw-all-well-formed-one : One raw-all-well-formed.Post (λ k r s. r)
+raw-all-well-formed-one k a x y s t p q = equal p q
+
+pub raw-vector-at-one : One raw-vector-at.Post (λ k r s. r)
+raw-vector-at-one k a x y s t p q = equal p q
+
+pub raw-put-vector-one : One raw-put-vector.Post (λ k r s. s.0.now)
+raw-put-vector-one k a x y s t p q = equal p q
+
+pub raw-put-message-one : One raw-put-message.Post (λ k r s. s.0.now)
+raw-put-message-one k a x y s t p q = equal p q
