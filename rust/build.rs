@@ -1,4 +1,4 @@
-//! Links libssaldorip.a: from the folder that SSALDORIP_ARCHIVE names, or else from ../target/staticlib.
+//! Links libssaldorip.a: from the folder that SSALDORIP_ARCHIVE names, or else from ../crates/ssaldorip/out.
 
 use std::env;
 use std::path::PathBuf;
@@ -20,7 +20,7 @@ fn main() {
     let folder = match &named {
         // A relative name is taken from the package, where cargo runs this program.
         Some(folder) => package.join(folder),
-        None => package.join("../target/staticlib"),
+        None => package.join("../crates/ssaldorip/out"),
     };
     let archive = folder.join(ARCHIVE);
     // Also when it is not there yet: then its coming runs this program again.
@@ -30,7 +30,7 @@ fn main() {
         stop(&match named {
             Some(_) => format!("{place} is not there. SSALDORIP_ARCHIVE names the folder that holds {ARCHIVE}."),
             None => format!(
-                "{place} is not there. Make it with `rt staticlib ssaldorip` at the top of the repository, \
+                "{place} is not there. Make it with `rt lib` in crates/ssaldorip, \
                  or name the folder that holds {ARCHIVE} in SSALDORIP_ARCHIVE."
             ),
         });

@@ -61,7 +61,7 @@ lockstep() {
 
 # The C program prints what is expected of it.
 c_program() {
-    $cc -std=c99 -Wall -Wextra -Werror -I include tests/c/example.c target/staticlib/libssaldorip.a -o "$work/example" &&
+    $cc -std=c99 -Wall -Wextra -Werror -I include tests/c/example.c crates/ssaldorip/out/libssaldorip.a -o "$work/example" &&
         $emulator "$work/example" >"$work/out" && diff "$work/out" tests/c/expected.txt && echo '1 passed, 0 failed'
 }
 
@@ -70,13 +70,13 @@ emulator=
 missing=
 [ "$(uname -m)" = x86_64 ] || cross
 
-if ! rt staticlib ssaldorip >"$work/archive" 2>&1; then
+if ! (cd crates/ssaldorip && rt lib) >"$work/archive" 2>&1; then
     tail -n 20 "$work/archive"
     failed=1
 elif [ -n "$missing" ]; then
     echo "Not run: the lockstep, the Rust tests and the C program, since this $(uname -m) machine has no $missing."
 else
-    SSALDORIP_ARCHIVE=$PWD/target/staticlib
+    SSALDORIP_ARCHIVE=$PWD/crates/ssaldorip/out
     CARGO_TARGET_DIR=$PWD/target/rust
     export SSALDORIP_ARCHIVE CARGO_TARGET_DIR
     # Two at a time, one half of the lockstep each: it takes longest. While one cargo builds, the other waits.
@@ -87,7 +87,7 @@ else
     keep c_program c_program
     names='lockstep_hostile lockstep_clusters lockstep_examples package c_program'
     if command -v qemu-x86_64 >/dev/null; then
-        keep passes sh tests/passes/run.sh target/staticlib/libssaldorip.a $cc qemu-x86_64
+        keep passes sh tests/passes/run.sh crates/ssaldorip/out/libssaldorip.a $cc qemu-x86_64
         names="$names passes"
     else
         echo 'Not run: how often a call reads each record, since this machine has no qemu-x86_64 to trace it.'

@@ -1,9 +1,10 @@
 #!/bin/sh
-# Each wrong program is refused where it says, by a fact. It reads what `rt ci` left: target/must-fail/CRATE/EDIT/.log.
-# A wrong program is an edit with a line 'at: PLACE NAME': in the log an error stands at NAME in proofs/PLACE/Proof.antt, or in
-# proofs/PLACE.antt, or the function PLACE, which needs no file, is left unproved at NAME. An error that only says that the proof file does not suit the code any more, or that follows from another,
-# is none. The edits of crates/CRATE/wrong are tried in groups, which are exactly their members (.ci/group); an edit of
-# definitions stands alone in must-fail/.
+# Each wrong program is refused where it says, by a fact. rt ci tries the edits, and keeps no log of what the check says of one; so
+# each is tried here once more, on a copy of the crates (.ci/edited).
+# A wrong program is an edit with a line 'at: PLACE NAME': in the log an error stands at NAME in a file of proofs/PLACE/, or in
+# proofs/PLACE.antt, or the function PLACE, which needs no answer there, is left unproved at NAME. An error that only says that the
+# proof file does not suit the code any more, or that follows from another, is none. The edits of crates/CRATE/wrong are tried in
+# groups, which are exactly their members (.ci/group); an edit of definitions stands alone in must-fail/.
 cd "$(dirname "$0")/.." || exit 1
 passed=0
 failed=0
@@ -16,17 +17,22 @@ fail() {
 
 # Whether a log has such an error.
 told() { # LOG PLACE NAME
-    grep -F -e "/proofs/$2/Proof.antt:" -e "/proofs/$2.antt:" "$1" | grep -F ": error: \`$3\`" |
-        grep -vE 'was not admitted|is not in scope|has no field|that can be named from here|expected type `tie\.Need' | grep -q . ||
-        grep -F "::$(echo "$2" | sed 's|/|::|g'): no proof: " "$1" | grep -F "does not close" | grep -qF "\`$3\`"
+    grep -F -e "/proofs/$2/Answers.antt:" -e "/proofs/$2/Invariants.antt:" -e "/proofs/$2/Proof.antt:" -e "/proofs/$2.antt:" "$1" | grep -F ": error: \`$3\`" |
+        grep -vE 'was not admitted|is not in scope|has no field|that can be named from here' | grep -q . ||
+        grep -F "::$(echo "$2" | sed 's|/|::|g'): no proof: " "$1" | grep -F "did not prove" | grep -qF "\`$3\`"
+}
+
+# Tries an edit of a crate; what the check said stays in LOG.
+try() { # CRATE EDIT LOG
+    .ci/edited "$work" "$1" "$2" >"$3" 2>&1
 }
 
 refused() { # EDIT LOG
     at=$(sed -n 's/^at: //p' "$1")
     if [ -z "$at" ]; then
         fail "$1: it does not say where it is refused"
-    elif [ ! -f "$2" ]; then
-        fail "$1: it was not tried ($2 is not there)"
+    elif ! grep -q '^logic=not-proved' "$2"; then
+        fail "$1: it was not tried: $(tail -n 1 "$2")"
     elif told "$2" "${at% *}" "${at##* }"; then
         pass
     else
@@ -34,8 +40,11 @@ refused() { # EDIT LOG
     fi
 }
 
-wanted=$(mktemp) || exit 1
-trap 'rm -f "$wanted"' EXIT
+work=$(mktemp -d) || exit 1
+trap 'rm -rf "$work"' EXIT
+wanted=$work/wanted
+log=$work/log
+tar -cf - --exclude=out crates.txt crates | tar -xf - -C "$work"
 
 .ci/group --groups | while read -r c k; do echo "crates/$c/must-fail/wrong_$k.edit"; done >"$wanted"
 for e in crates/*/must-fail/wrong_*.edit; do
@@ -47,8 +56,9 @@ while IFS= read -r e; do
     k=${e##*wrong_}
     k=${k%.edit}
     if .ci/group "$c" "$k" | cmp -s - "$e"; then pass; else fail "$e: it is not its members (.ci/group --write)"; fi
+    try "$c" "$e" "$log" </dev/null
     for m in $(sed -n 's/^# wrong\///p' "$e"); do
-        refused "crates/$c/wrong/$m" "target/must-fail/$c/wrong_$k/.log"
+        refused "crates/$c/wrong/$m" "$log"
     done
 done <"$wanted"
 
@@ -56,7 +66,8 @@ for e in crates/*/must-fail/*.edit; do
     label=$(basename "$e" .edit)
     case $label in wrong_*) continue ;; esac
     c=${e#crates/}
-    refused "$e" "target/must-fail/${c%%/*}/$label/.log"
+    try "${c%%/*}" "$e" "$log"
+    refused "$e" "$log"
 done
 
 echo "$passed passed, $failed failed"

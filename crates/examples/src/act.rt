@@ -11,6 +11,7 @@ use rules::answer::Outcome;
 use rules::event::{Event, Request, What};
 use rules::state::State;
 use server::step;
+use std::io::Stdout;
 
 pub(crate) type History = [u8; Image::HISTORY_LEN];
 
@@ -31,37 +32,40 @@ pub(crate) fn pair(a: u16, b: u16) -> Vector
 }
 
 // The reply, V, how many writes are held, the two counts of the image, and the status.
-fn told(o: Outcome, history: &History, image: &Stored) -> State {
+fn told(to: Stdout, o: Outcome, history: &History, image: &Stored) -> State {
     let answer = o.answer;
     let vector = o.vector;
     let s = o.next;
-    tell::reply(answer, vector, s.n);
+    tell::reply(to, answer, vector, s.n);
     let v = s.vector;
-    tell::vector(b"  V", v, s.n);
+    tell::vector(to, b"  V", v, s.n);
     let checkpoint = number::wide32(number::raw::u16_at(image, Image::CHECKPOINT));
     let log = number::wide32(number::raw::u16_at(image, Image::LOG));
     tell::say(
+        to,
         b"  held, checkpoint, log",
         &[number::wide32(s.held), checkpoint, log],
     );
-    tell::status(status::status(s, history, image));
+    tell::status(to, status::status(s, history, image));
     s
 }
 
 pub(crate) fn begin(
+    to: Stdout,
     name: &[u8],
     n: u8,
     own: u8,
     history: &mut History,
     image: &mut Stored,
 ) -> State {
-    tell::say(name, &[n as u32, own as u32]);
+    tell::say(to, name, &[n as u32, own as u32]);
     let o = start::start(n, ServerId(own), history, image);
-    told(o, history, image)
+    told(to, o, history, image)
 }
 
 // The step of an event at the server itself.
 fn happen(
+    to: Stdout,
     s: State,
     what: What,
     asked: Vector,
@@ -72,7 +76,7 @@ fn happen(
     let own = s.own;
     let e = Event { server: own, what };
     let o = step::step(s, e, asked, m, history, image);
-    told(o, history, image)
+    told(to, o, history, image)
 }
 
 pub(crate) fn note(value: u32) -> Request
@@ -86,19 +90,21 @@ pub(crate) fn note(value: u32) -> Request
 }
 
 pub(crate) fn write(
+    to: Stdout,
     name: &[u8],
     s: State,
     value: u32,
     history: &mut History,
     image: &mut Stored,
 ) -> State {
-    tell::say(name, &[]);
+    tell::say(to, name, &[]);
     let what = What::Request(PhoneId(5), note(value));
-    happen(s, what, Vector::zero(), b"", history, image)
+    happen(to, s, what, Vector::zero(), b"", history, image)
 }
 
 // A read of the cell with a vector, which stands behind the name.
 pub(crate) fn read(
+    to: Stdout,
     name: &[u8],
     s: State,
     phone: u8,
@@ -106,13 +112,14 @@ pub(crate) fn read(
     history: &mut History,
     image: &mut Stored,
 ) -> State {
-    tell::vector(name, asked, s.n);
+    tell::vector(to, name, asked, s.n);
     let what = What::Request(PhoneId(phone), Request::Read { cell: CELL });
-    happen(s, what, asked, b"", history, image)
+    happen(to, s, what, asked, b"", history, image)
 }
 
 // Phone 5's request cut after k stores; k stands behind the name.
 pub(crate) fn cut_after(
+    to: Stdout,
     name: &[u8],
     s: State,
     q: Request,
@@ -121,23 +128,36 @@ pub(crate) fn cut_after(
     history: &mut History,
     image: &mut Stored,
 ) -> State {
-    tell::say(name, &[k]);
+    tell::say(to, name, &[k]);
     let what = What::RequestCut(PhoneId(5), q, k);
-    happen(s, what, asked, b"", history, image)
+    happen(to, s, what, asked, b"", history, image)
 }
 
-pub(crate) fn cut(name: &[u8], s: State, history: &mut History, image: &mut Stored) -> State {
-    tell::say(name, &[]);
-    happen(s, What::Cut, Vector::zero(), b"", history, image)
+pub(crate) fn cut(
+    to: Stdout,
+    name: &[u8],
+    s: State,
+    history: &mut History,
+    image: &mut Stored,
+) -> State {
+    tell::say(to, name, &[]);
+    happen(to, s, What::Cut, Vector::zero(), b"", history, image)
 }
 
-pub(crate) fn recover(name: &[u8], s: State, history: &mut History, image: &mut Stored) -> State {
-    tell::say(name, &[]);
-    happen(s, What::Recovery, Vector::zero(), b"", history, image)
+pub(crate) fn recover(
+    to: Stdout,
+    name: &[u8],
+    s: State,
+    history: &mut History,
+    image: &mut Stored,
+) -> State {
+    tell::say(to, name, &[]);
+    happen(to, s, What::Recovery, Vector::zero(), b"", history, image)
 }
 
 // The update of a server, whose number stands behind the name.
 pub(crate) fn update(
+    to: Stdout,
     name: &[u8],
     s: State,
     from: u8,
@@ -145,6 +165,6 @@ pub(crate) fn update(
     history: &mut History,
     image: &mut Stored,
 ) -> State {
-    tell::say(name, &[from as u32]);
-    happen(s, What::Update, Vector::zero(), m, history, image)
+    tell::say(to, name, &[from as u32]);
+    happen(to, s, What::Update, Vector::zero(), m, history, image)
 }

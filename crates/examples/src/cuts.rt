@@ -3,11 +3,13 @@ use crate::act;
 use crate::act::{History, Stored};
 use notes::vector::Vector;
 use rules::event::Request;
+use std::io::Stdout;
 
 // The first write cut after k stores.
-pub(crate) fn seven(k: u32, history: &mut History, image: &mut Stored) {
-    let fresh = act::begin(b"7 start, N and own number", 2, 0, history, image);
+pub(crate) fn seven(to: Stdout, k: u32, history: &mut History, image: &mut Stored) {
+    let fresh = act::begin(to, b"7 start, N and own number", 2, 0, history, image);
     let down = act::cut_after(
+        to,
         b"7 phone 5 writes, cut after",
         fresh,
         act::note(7),
@@ -16,14 +18,15 @@ pub(crate) fn seven(k: u32, history: &mut History, image: &mut Stored) {
         history,
         image,
     );
-    act::recover(b"7 recovery", down, history, image);
+    act::recover(to, b"7 recovery", down, history, image);
 }
 
 // Example 4's checkpoint cut after k stores.
-pub(crate) fn eight(k: u32, history: &mut History, image: &mut Stored) {
-    let fresh = act::begin(b"8 start, N and own number", 2, 0, history, image);
-    let wrote = act::write(b"8 phone 5 writes", fresh, 7, history, image);
+pub(crate) fn eight(to: Stdout, k: u32, history: &mut History, image: &mut Stored) {
+    let fresh = act::begin(to, b"8 start, N and own number", 2, 0, history, image);
+    let wrote = act::write(to, b"8 phone 5 writes", fresh, 7, history, image);
     let first = act::read(
+        to,
         b"8 phone 5 reads with",
         wrote,
         5,
@@ -32,6 +35,7 @@ pub(crate) fn eight(k: u32, history: &mut History, image: &mut Stored) {
         image,
     );
     let down = act::cut_after(
+        to,
         b"8 phone 5 reads again, cut after",
         first,
         Request::Read { cell: act::CELL },
@@ -40,5 +44,5 @@ pub(crate) fn eight(k: u32, history: &mut History, image: &mut Stored) {
         history,
         image,
     );
-    act::recover(b"8 recovery", down, history, image);
+    act::recover(to, b"8 recovery", down, history, image);
 }

@@ -4,19 +4,21 @@ use crate::{act, quiet};
 use notes::message::Header;
 use notes::vector::Vector;
 use rules::state::State;
+use std::io::Stdout;
 
-pub(crate) fn ten(history: &mut History, image: &mut Stored) {
-    let fresh = act::begin(b"10 start, N and own number", 2, 0, history, image);
+pub(crate) fn ten(to: Stdout, history: &mut History, image: &mut Stored) {
+    let fresh = act::begin(to, b"10 start, N and own number", 2, 0, history, image);
     let most = quiet::writes(fresh, 7, 63, history, image);
-    let full = act::write(b"10 the 64th write", most, 7, history, image);
-    act::write(b"10 the 65th write", full, 7, history, image);
+    let full = act::write(to, b"10 the 64th write", most, 7, history, image);
+    act::write(to, b"10 the 65th write", full, 7, history, image);
 }
 
 // 64 writes of another server of four.
-fn taken(s: State, from: u8, history: &mut History, image: &mut Stored) -> State {
+fn taken(to: Stdout, s: State, from: u8, history: &mut History, image: &mut Stored) -> State {
     let mut m = [0u8; Header::MESSAGE_MOST];
     let k = quiet::written(4, from, 8, 64, &mut m);
     act::update(
+        to,
         b"10 it takes 64 writes of server",
         s,
         from,
@@ -27,19 +29,20 @@ fn taken(s: State, from: u8, history: &mut History, image: &mut Stored) -> State
 }
 
 // 64 own writes and those of three others: 256 held, and a full log.
-fn all_held(history: &mut History, image: &mut Stored) -> State {
-    let fresh = act::begin(b"10 start, N and own number", 4, 0, history, image);
+fn all_held(to: Stdout, history: &mut History, image: &mut Stored) -> State {
+    let fresh = act::begin(to, b"10 start, N and own number", 4, 0, history, image);
     let most = quiet::writes(fresh, 7, 63, history, image);
-    let own = act::write(b"10 the 64th write", most, 7, history, image);
-    let one = taken(own, 1, history, image);
-    let two = taken(one, 2, history, image);
-    taken(two, 3, history, image)
+    let own = act::write(to, b"10 the 64th write", most, 7, history, image);
+    let one = taken(to, own, 1, history, image);
+    let two = taken(to, one, 2, history, image);
+    taken(to, two, 3, history, image)
 }
 
 // A write is refused, and again after a checkpoint has emptied the log.
-pub(crate) fn ten_held(history: &mut History, image: &mut Stored) {
-    let held = all_held(history, image);
+pub(crate) fn ten_held(to: Stdout, history: &mut History, image: &mut Stored) {
+    let held = all_held(to, history, image);
     let refused = act::write(
+        to,
         b"10 a write, 256 held and the log full",
         held,
         7,
@@ -47,6 +50,7 @@ pub(crate) fn ten_held(history: &mut History, image: &mut Stored) {
         image,
     );
     let first = act::read(
+        to,
         b"10 phone 5 reads with",
         refused,
         5,
@@ -58,6 +62,7 @@ pub(crate) fn ten_held(history: &mut History, image: &mut Stored) {
         counts: [64, 64, 64, 64, 0, 0, 0, 0],
     };
     let second = act::read(
+        to,
         b"10 phone 5 reads again with",
         first,
         5,
@@ -66,6 +71,7 @@ pub(crate) fn ten_held(history: &mut History, image: &mut Stored) {
         image,
     );
     act::write(
+        to,
         b"10 a write, 256 held and the log empty",
         second,
         7,

@@ -2,6 +2,8 @@
 // and then: the reply's number and values (a read's are 1 and the value, or 0 for "no note"); V where the reply has it; V of
 // the server; how many writes its history, checkpoint and log hold; its status (number, phones in CR, the lowest of them).
 // A message is listed before it is taken.
+#![tactic(auto)]
+
 mod act;
 mod cuts;
 mod full;
@@ -13,21 +15,22 @@ mod updates;
 use memory::image::Image;
 
 // The servers use the same buffers one after the other: starting anew takes them as they are.
-fn main() {
+fn main(rt: HostRuntime) {
+    let to = rt.stdout();
     let mut history = [0u8; Image::HISTORY_LEN];
     let mut image = [0u8; Image::LEN];
-    reads::one(&mut history, &mut image);
-    updates::two(&mut history, &mut image);
-    updates::three(&mut history, &mut image);
-    reads::four(&mut history, &mut image);
-    reads::five(&mut history, &mut image);
-    reads::six(&mut history, &mut image);
-    cuts::seven(28, &mut history, &mut image);
-    cuts::seven(29, &mut history, &mut image);
-    cuts::eight(28, &mut history, &mut image);
-    cuts::eight(29, &mut history, &mut image);
-    cuts::eight(30, &mut history, &mut image);
-    updates::nine(&mut history, &mut image);
-    full::ten(&mut history, &mut image);
-    full::ten_held(&mut history, &mut image);
+    reads::one(to, &mut history, &mut image);
+    updates::two(to, &mut history, &mut image);
+    updates::three(to, &mut history, &mut image);
+    reads::four(to, &mut history, &mut image);
+    reads::five(to, &mut history, &mut image);
+    reads::six(to, &mut history, &mut image);
+    cuts::seven(to, 28, &mut history, &mut image);
+    cuts::seven(to, 29, &mut history, &mut image);
+    cuts::eight(to, 28, &mut history, &mut image);
+    cuts::eight(to, 29, &mut history, &mut image);
+    cuts::eight(to, 30, &mut history, &mut image);
+    updates::nine(to, &mut history, &mut image);
+    full::ten(to, &mut history, &mut image);
+    full::ten_held(to, &mut history, &mut image);
 }

@@ -1,11 +1,13 @@
 // Examples 1 and 4 to 6: reads at one server.
 use crate::act;
 use crate::act::{History, Stored};
+use std::io::Stdout;
 
-pub(crate) fn one(history: &mut History, image: &mut Stored) {
-    let fresh = act::begin(b"1 start, N and own number", 2, 0, history, image);
-    let wrote = act::write(b"1 phone 5 writes cell 300", fresh, 7, history, image);
+pub(crate) fn one(to: Stdout, history: &mut History, image: &mut Stored) {
+    let fresh = act::begin(to, b"1 start, N and own number", 2, 0, history, image);
+    let wrote = act::write(to, b"1 phone 5 writes cell 300", fresh, 7, history, image);
     let refused = act::read(
+        to,
         b"1 phone 5 reads with",
         wrote,
         5,
@@ -14,6 +16,7 @@ pub(crate) fn one(history: &mut History, image: &mut Stored) {
         image,
     );
     act::read(
+        to,
         b"1 phone 5 reads with",
         refused,
         5,
@@ -23,10 +26,11 @@ pub(crate) fn one(history: &mut History, image: &mut Stored) {
     );
 }
 
-pub(crate) fn four(history: &mut History, image: &mut Stored) {
-    let fresh = act::begin(b"4 start, N and own number", 2, 0, history, image);
-    let wrote = act::write(b"4 phone 5 writes", fresh, 7, history, image);
+pub(crate) fn four(to: Stdout, history: &mut History, image: &mut Stored) {
+    let fresh = act::begin(to, b"4 start, N and own number", 2, 0, history, image);
+    let wrote = act::write(to, b"4 phone 5 writes", fresh, 7, history, image);
     let first = act::read(
+        to,
         b"4 phone 5 reads with",
         wrote,
         5,
@@ -35,6 +39,7 @@ pub(crate) fn four(history: &mut History, image: &mut Stored) {
         image,
     );
     act::read(
+        to,
         b"4 phone 5 reads again with",
         first,
         5,
@@ -44,9 +49,10 @@ pub(crate) fn four(history: &mut History, image: &mut Stored) {
     );
 }
 
-pub(crate) fn five(history: &mut History, image: &mut Stored) {
-    let fresh = act::begin(b"5 start, N and own number", 2, 0, history, image);
+pub(crate) fn five(to: Stdout, history: &mut History, image: &mut Stored) {
+    let fresh = act::begin(to, b"5 start, N and own number", 2, 0, history, image);
     let first = act::read(
+        to,
         b"5 phone 5 reads with",
         fresh,
         5,
@@ -54,8 +60,9 @@ pub(crate) fn five(history: &mut History, image: &mut Stored) {
         history,
         image,
     );
-    let wrote = act::write(b"5 phone 5 writes", first, 7, history, image);
+    let wrote = act::write(to, b"5 phone 5 writes", first, 7, history, image);
     act::read(
+        to,
         b"5 phone 5 reads again with",
         wrote,
         5,
@@ -65,9 +72,10 @@ pub(crate) fn five(history: &mut History, image: &mut Stored) {
     );
 }
 
-pub(crate) fn six(history: &mut History, image: &mut Stored) {
-    let fresh = act::begin(b"6 start, N and own number", 2, 0, history, image);
+pub(crate) fn six(to: Stdout, history: &mut History, image: &mut Stored) {
+    let fresh = act::begin(to, b"6 start, N and own number", 2, 0, history, image);
     let first = act::read(
+        to,
         b"6 phone 5 reads with",
         fresh,
         5,
@@ -76,6 +84,7 @@ pub(crate) fn six(history: &mut History, image: &mut Stored) {
         image,
     );
     let second = act::read(
+        to,
         b"6 phone 5 reads again with",
         first,
         5,
@@ -83,8 +92,9 @@ pub(crate) fn six(history: &mut History, image: &mut Stored) {
         history,
         image,
     );
-    let wrote = act::write(b"6 phone 5 writes", second, 7, history, image);
+    let wrote = act::write(to, b"6 phone 5 writes", second, 7, history, image);
     act::read(
+        to,
         b"6 phone 6 reads with",
         wrote,
         6,

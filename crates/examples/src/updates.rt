@@ -7,22 +7,30 @@ use notes::index::{PhoneId, ServerId};
 use notes::message;
 use notes::message::{Header, Written};
 use notes::record::Record;
+use std::io::Stdout;
 
 // Server 1 writes; its message.
-fn two_first(out: &mut [u8], history: &mut History, image: &mut Stored) -> usize
+fn two_first(to: Stdout, out: &mut [u8], history: &mut History, image: &mut Stored) -> usize
     ensures { IsPrefixLen result out.new }
 {
-    let fresh = act::begin(b"2 start, N and own number", 3, 1, history, image);
-    let wrote = act::write(b"2 server 1: phone 5 writes", fresh, 7, history, image);
+    let fresh = act::begin(to, b"2 start, N and own number", 3, 1, history, image);
+    let wrote = act::write(to, b"2 server 1: phone 5 writes", fresh, 7, history, image);
     quiet::send(wrote, history, image, out)
 }
 
 // Server 0 takes it, writes, is cut and recovers; its message.
-fn two_second(m: &[u8], out: &mut [u8], history: &mut History, image: &mut Stored) -> usize
+fn two_second(
+    to: Stdout,
+    m: &[u8],
+    out: &mut [u8],
+    history: &mut History,
+    image: &mut Stored,
+) -> usize
     ensures { IsPrefixLen result out.new }
 {
-    let fresh = act::begin(b"2 start, N and own number", 3, 0, history, image);
+    let fresh = act::begin(to, b"2 start, N and own number", 3, 0, history, image);
     let took = act::update(
+        to,
         b"2 server 0 takes the update of server",
         fresh,
         1,
@@ -30,16 +38,17 @@ fn two_second(m: &[u8], out: &mut [u8], history: &mut History, image: &mut Store
         history,
         image,
     );
-    let wrote = act::write(b"2 server 0: phone 5 writes", took, 8, history, image);
-    let down = act::cut(b"2 server 0 is cut", wrote, history, image);
-    let up = act::recover(b"2 server 0 recovers", down, history, image);
+    let wrote = act::write(to, b"2 server 0: phone 5 writes", took, 8, history, image);
+    let down = act::cut(to, b"2 server 0 is cut", wrote, history, image);
+    let up = act::recover(to, b"2 server 0 recovers", down, history, image);
     quiet::send(up, history, image, out)
 }
 
 // Server 2 takes server 0's, and then server 1's.
-fn two_third(from_0: &[u8], from_1: &[u8], history: &mut History, image: &mut Stored) {
-    let fresh = act::begin(b"2 start, N and own number", 3, 2, history, image);
+fn two_third(to: Stdout, from_0: &[u8], from_1: &[u8], history: &mut History, image: &mut Stored) {
+    let fresh = act::begin(to, b"2 start, N and own number", 3, 2, history, image);
     let took = act::update(
+        to,
         b"2 server 2 takes the update of server",
         fresh,
         0,
@@ -48,6 +57,7 @@ fn two_third(from_0: &[u8], from_1: &[u8], history: &mut History, image: &mut St
         image,
     );
     let refused = act::read(
+        to,
         b"2 server 2: phone 5 reads with",
         took,
         5,
@@ -56,6 +66,7 @@ fn two_third(from_0: &[u8], from_1: &[u8], history: &mut History, image: &mut St
         image,
     );
     let both = act::update(
+        to,
         b"2 server 2 takes the update of server",
         refused,
         1,
@@ -64,6 +75,7 @@ fn two_third(from_0: &[u8], from_1: &[u8], history: &mut History, image: &mut St
         image,
     );
     act::read(
+        to,
         b"2 server 2: phone 5 reads with",
         both,
         5,
@@ -73,22 +85,31 @@ fn two_third(from_0: &[u8], from_1: &[u8], history: &mut History, image: &mut St
     );
 }
 
-pub(crate) fn two(history: &mut History, image: &mut Stored) {
+pub(crate) fn two(to: Stdout, history: &mut History, image: &mut Stored) {
     let mut from_1 = [0u8; Header::MESSAGE_MOST];
     let mut from_0 = [0u8; Header::MESSAGE_MOST];
-    let one = two_first(&mut from_1, history, image);
-    tell::list(&from_1[..one]);
-    let zero = two_second(&from_1[..one], &mut from_0, history, image);
-    tell::list(&from_0[..zero]);
-    two_third(&from_0[..zero], &from_1[..one], history, image);
+    let one = two_first(to, &mut from_1, history, image);
+    tell::list(to, &from_1[..one]);
+    let zero = two_second(to, &from_1[..one], &mut from_0, history, image);
+    tell::list(to, &from_0[..zero]);
+    two_third(to, &from_0[..zero], &from_1[..one], history, image);
 }
 
 // A server writes, takes the other's update, and is read.
-fn three_at(own: u8, value: u32, other: u8, m: &[u8], history: &mut History, image: &mut Stored) {
-    let fresh = act::begin(b"3 start, N and own number", 2, own, history, image);
-    let wrote = act::write(b"3 phone 5 writes", fresh, value, history, image);
-    tell::list(m);
+fn three_at(
+    to: Stdout,
+    own: u8,
+    value: u32,
+    other: u8,
+    m: &[u8],
+    history: &mut History,
+    image: &mut Stored,
+) {
+    let fresh = act::begin(to, b"3 start, N and own number", 2, own, history, image);
+    let wrote = act::write(to, b"3 phone 5 writes", fresh, value, history, image);
+    tell::list(to, m);
     let took = act::update(
+        to,
         b"3 it takes this update of server",
         wrote,
         other,
@@ -97,6 +118,7 @@ fn three_at(own: u8, value: u32, other: u8, m: &[u8], history: &mut History, ima
         image,
     );
     act::read(
+        to,
         b"3 phone 5 reads with",
         took,
         5,
@@ -106,13 +128,13 @@ fn three_at(own: u8, value: u32, other: u8, m: &[u8], history: &mut History, ima
     );
 }
 
-pub(crate) fn three(history: &mut History, image: &mut Stored) {
+pub(crate) fn three(to: Stdout, history: &mut History, image: &mut Stored) {
     let mut from_0 = [0u8; Header::MESSAGE_MOST];
     let mut from_1 = [0u8; Header::MESSAGE_MOST];
     let zero = quiet::written(2, 0, 7, 1, &mut from_0);
     let one = quiet::written(2, 1, 8, 1, &mut from_1);
-    three_at(0, 7, 1, &from_1[..one], history, image);
-    three_at(1, 8, 0, &from_0[..zero], history, image);
+    three_at(to, 0, 7, 1, &from_1[..one], history, image);
+    three_at(to, 1, 8, 0, &from_0[..zero], history, image);
 }
 
 // The message of write number 2 of server 1 alone.
@@ -135,12 +157,13 @@ fn nine_message(out: &mut [u8]) -> usize
     }
 }
 
-pub(crate) fn nine(history: &mut History, image: &mut Stored) {
+pub(crate) fn nine(to: Stdout, history: &mut History, image: &mut Stored) {
     let mut m = [0u8; Header::MESSAGE_MOST];
     let k = nine_message(&mut m);
-    let fresh = act::begin(b"9 start, N and own number", 2, 0, history, image);
-    tell::list(&m[..k]);
+    let fresh = act::begin(to, b"9 start, N and own number", 2, 0, history, image);
+    tell::list(to, &m[..k]);
     act::update(
+        to,
         b"9 it takes this update of server",
         fresh,
         1,

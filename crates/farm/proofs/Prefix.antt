@@ -66,8 +66,8 @@ module _ {A : Type 0} where
 
   -- ---- what each element has
   pub each-mem : (P : A → Type 0) (l : List A) {x : A} → Each P l → Memᴰ x l → P x
-  each-mem P l h (Memᴰ.head {x = y} {xs = ys} e) = subst P (sym e) h.0
-  each-mem P l h (Memᴰ.tail {x = y} {xs = ys} m) = each-mem P ys h.1 m
+  each-mem P [] h m = elim m [ ]
+  each-mem P (y ∷ ys) h m = elim (Memᴰ.cases_cons m) [ inl e ↦ subst P (sym e) h.0 | inr r ↦ each-mem P ys h.1 r ]
 
   pub mem-each : (P : A → Type 0) (l : List A) → ((x : A) → Memᴰ x l → P x) → Each P l
   mem-each P [] f = tt
@@ -81,16 +81,19 @@ module _ {A : Type 0} where
   -- ---- those that pass a test
   pub every-mem : (p : A → Bool) (l : List A) {x : A} → every p l ≡ true → Memᴰ x l → p x ≡ true
   unfolding every
-  every-mem p l h (Memᴰ.head {x = y} {xs = ys} e) = ap p e ∙ (both (p y) (every p ys) h).0
-  every-mem p l h (Memᴰ.tail {x = y} {xs = ys} m) = every-mem p ys (both (p y) (every p ys) h).1 m
+  every-mem p [] h m = elim m [ ]
+  every-mem p (y ∷ ys) h m =
+      let b = both (p y) (every p ys) h in
+      elim (Memᴰ.cases_cons m) [ inl e ↦ ap p e ∙ b.0 | inr r ↦ every-mem p ys b.1 r ]
 
   pub pre-keep : (p : A → Bool) (a b : List A) → Pre a b → Pre (keep p a) (keep p b)
   pre-keep p a b h = (keep p h.0, sym (keep_append p a h.0) ∙ ap (keep p) h.1)
 
   pub mem-keep : (p : A → Bool) (l : List A) {x : A} → p x ≡ true → Memᴰ x l → Memᴰ x (keep p l)
   unfolding keep
-  mem-keep p l {x} h (Memᴰ.head {x = y} {xs = ys} e) = rw (ap p (sym e) ∙ h) (Memᴰ.head e)
-  mem-keep p l {x} h (Memᴰ.tail {x = y} {xs = ys} m) = go (p y) (mem-keep p ys h m)
+  mem-keep p [] h m = elim m [ ]
+  mem-keep p (y ∷ ys) {x} h m =
+      elim (Memᴰ.cases_cons m) [ inl e ↦ rw (ap p (sym e) ∙ h) (Memᴰ.head e) | inr r ↦ go (p y) (mem-keep p ys h r) ]
     where
       go : (t : Bool) → Memᴰ x (keep p ys) → Memᴰ x (keep_if t y (keep p ys))
       go true r = Memᴰ.tail r

@@ -4,6 +4,7 @@ use Prim.Native.Nat.{ℕ, ◌+◌, ◌≤◌, ◌<◌}
 use mathlib.Core.Bool.{Bool, true, false, cond}
 use mathlib.Core.List.Memᴰ
 use mathlib.Core.List.{List, [], ◌∷◌, ◌++◌, append_assoc, append-nil, head-eq_of_cons-eq}
+use mathlib.Core.Logic.{◌⊎◌, inl, inr}
 use mathlib.Core.Path.{◌≡◌, refl, ap, sym, subst, ◌∙◌}
 use native.Mathlib.Decide.{ℕ_discrete}
 use native.Mathlib.Omega.{arith}
@@ -121,9 +122,12 @@ from_next p q r f =
     let e = rw drop-append_seam at (from-drop 0 (length p) (p ++ r ∷ q) f) in omega (arith, ap (λ (l : List ℕ). get_or l 0 0) e)
 
 pub mem-split : (l : List Record) (x : Record) → x ∈ l → (p q : List Record) × (p ++ x ∷ q ≡ l)
-mem-split l x (Memᴰ.head {x = y} {xs = ys} e) = ([], ys, ap (λ (z : Record). z ∷ ys) e)
-mem-split l x (Memᴰ.tail {x = y} {xs = ys} m) =
-    let s = mem-split ys x m in (y ∷ s.0, s.1, ap (λ (z : List Record). y ∷ z) s.2)
+mem-split [] x m = elim m [ ]
+mem-split (y ∷ ys) x m = go (λ r. mem-split ys x r) (Memᴰ.cases_cons m)
+  where
+    go : (x ∈ ys → (p q : List Record) × (p ++ x ∷ q ≡ ys)) → (x ≡ y) ⊎ x ∈ ys → (p q : List Record) × (p ++ x ∷ q ≡ y ∷ ys)
+    go later (inl e) = ([], ys, ap (λ (z : Record). z ∷ ys) e)
+    go later (inr r) = let s = later r in (y ∷ s.0, s.1, ap (λ (z : List Record). y ∷ z) s.2)
 
 -- where a write stands in its origin's list: as many are before it as its number says
 record Place (c : List Record) (w : Record) : Type 0 where

@@ -20,19 +20,22 @@ use Rattle.rules.specs.Calls.{is_numbered, or_later, place_of, stands_at, bytes_
 
 module _ (o : ServerId) (k : ℕ) where
   -- ---- among records: the place of the first, or none
-  place_none : (rs : List Record) → place_of o k rs ≡ none → (r : Record) → Memᴰ r rs → is_numbered o k r ≡ false
+  none_among : (r : Record) (rs : List Record) → place_of o k rs ≡ none → Memᴰ r rs → is_numbered o k r ≡ false
   unfolding place_of
-  place_none rs e r (Memᴰ.head {x = x} {xs = xs} p) = ap (is_numbered o k) p ∙ go (is_numbered o k x) refl e
+  none_among r rs e (Memᴰ.head {x = x} {xs = xs} p) = ap (is_numbered o k) p ∙ go (is_numbered o k x) refl e
     where
       go : (t : Bool) → is_numbered o k x ≡ t → or_later t (place_of o k xs) ≡ none → is_numbered o k x ≡ false
       go true q e = absurd (some-ne-none 0 e)
       go false q e = q
-  place_none rs e r (Memᴰ.tail {x = x} {xs = xs} m) = place_none xs (go (is_numbered o k x) (place_of o k xs) e) r m
+  none_among r rs e (Memᴰ.tail {x = x} {xs = xs} m) = none_among r xs (go (is_numbered o k x) (place_of o k xs) e) m
     where
       go : (t : Bool) (later : Option ℕ) → or_later t later ≡ none → later ≡ none
       go true later e = absurd (some-ne-none 0 e)
       go false none e = refl
       go false (some p) e = absurd (some-ne-none (suc p) e)
+
+  place_none : (rs : List Record) → place_of o k rs ≡ none → (r : Record) → Memᴰ r rs → is_numbered o k r ≡ false
+  place_none rs e r m = none_among r rs e m
 
   none-place : (rs : List Record) → ((r : Record) → Memᴰ r rs → is_numbered o k r ≡ false) → place_of o k rs ≡ none
   unfolding place_of

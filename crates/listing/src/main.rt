@@ -1,19 +1,21 @@
 // Reads one message from standard input and prints its listing.
 #![tactic(auto)]
 
-use libc::{STDIN_FILENO, STDOUT_FILENO};
 use notes::message::{Header, Written};
+use std::io;
+use std::io::Read;
 use text::listing;
 
 // One byte more than the longest message, so that a longer input is seen to be longer.
 const INPUT: usize = Header::MESSAGE_MOST + 1;
 
-fn main() {
-    let mut input = [0u8; INPUT];
-    let n = io::read_full(STDIN_FILENO, &mut input);
+fn main(rt: HostRuntime) -> io::Result<()> {
+    let mut input = Vec::new(rt.alloc());
+    rt.stdin().take(INPUT as u64).read_to_end(&mut input)?;
     let mut out = [0u8; listing::ROOM];
-    let listed = listing::list(&input[..n], &mut out);
+    let listed = listing::list(&input, &mut out);
     if let Written::Bytes(k) = listed {
-        io::write_all(STDOUT_FILENO, &out[..k]);
+        rt.write_all(&out[..k])?;
     }
+    Ok(())
 }

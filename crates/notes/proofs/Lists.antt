@@ -170,6 +170,10 @@ module _ {A B C : Type 0} (f : A → B → C) where
   get_or-zip_with (x ∷ v) (y ∷ w) (suc i) d e c h k = get_or-zip_with v w i d e c (omega arith) (omega arith)
 
 -- ---- parts that are lent
+-- b in place of so many bytes from k on, as a callee that is lent `&mut o[k..k + n]` leaves it
+pub put_part : (k : ℕ) (o b : List ℕ) → k + length b ≤ length o → put_mid k (length b) o b ≡ sets o k b
+put_part k o b h = rw drop-drop (sym (sets-eq b o k h ∙ append_assoc (take k o) b (drop (k + length b) o)))
+
 -- b copied to the front of what stands from k on, as a callee that is lent `&mut o[k..]` leaves it
 pub put_rest :
     (k : ℕ) (o b y : List ℕ)

@@ -8,13 +8,13 @@ use native.Mathlib.Nat.{zero-add}
 use native.Mathlib.Omega.{arith}
 use borrow.Author.Tests.{ltb-true, leb-true, eqb-true, lt-ltb, le-ltb, le-leb, eq-eqb}
 use lib.Dec.{leb}
-use lib.Seq.{take_all, sets}
-use lib.ListN.{length, get_or, take, drop, length-drop, length-append, set}
+use lib.Seq.{sets}
+use lib.ListN.{length, get_or, drop, length-drop, length-append, set}
 use Rattle.notes.specs.Lists.{every}
 use Rattle.notes.specs.Index.{servers, server_ok}
 use Rattle.notes.specs.Bytes.{field, to_bytes}
 use Rattle.notes.specs.Reply.{done, refused}
-use Rattle.notes.specs.Record.{record_size, well_formed, records, record_bytes}
+use Rattle.notes.specs.Record.{record_size, well_formed, record_bytes}
 use Rattle.notes.specs.Message.{header_size, count_field, offset_field, total_field, history_most, message_size, header_of, message_of, records_in, records_ok, message_n, message_sender, body, brought, message_ok, check, whole, write_refusal, write}
 use Rattle.notes.specs.Forms.{header_ok}
 use Rattle.notes.specs.declared.index.ServerId.{ServerId}

@@ -7,8 +7,8 @@ use mathlib.Core.Path.{◌≡◌, refl, ap, ◌∙◌}
 use native.Mathlib.Omega.{arith}
 use borrow.Author.Tests.{ltb-true, ltb-false, lt-ltb, le-ltb, eq-eqb, ne_eqb}
 use lib.Dec.{ltb, leb, eqb}
-use lib.ListN.{length, get_or, take, drop, length-drop, length-map, get_or-map, replicate, set}
-use lib.Seq.{get_or-drop, drop-drop, take_all, take-length, sets, sets-eq}
+use lib.ListN.{length, get_or, take, drop, length-drop, length-map, get_or-map, replicate, length-replicate, set}
+use lib.Seq.{get_or-drop, take_all, take-length, sets, sets-eq}
 use Rattle.notes.specs.Lists.{every}
 use Rattle.notes.specs.Index.{servers, phones}
 use Rattle.notes.specs.Bytes.{field, from_bytes, to_bytes, pieces}
@@ -16,7 +16,7 @@ use Rattle.notes.specs.Vector.{behind, vector_bytes}
 use Rattle.notes.specs.Record.{record_size, cells, in_range, well_formed, stamp_at, number, origin_field, phone_field, cell_field, decode, encode, records, record_bytes}
 use Rattle.notes.specs.Forms.{limits_of}
 use Rattle.notes.specs.declared.record.Record.{Record}
-use Rattle.notes.proofs.Lists.{both, every_more, every-fails, parts_join}
+use Rattle.notes.proofs.Lists.{both, every_more, every-fails, parts_join, sets-front}
 use Rattle.notes.proofs.Numbers.{AllBelow, below-take, below-drop, from-below, one_byte, from-to, from-two, from-split, from_one, from-agree, part-back, byte-join}
 use Rattle.notes.proofs.Pieces.{Each, each-also, length-pieces, piece-at, pieces-join, pieces-split, length-flat_map}
 use Rattle.notes.proofs.Vectors.{vector-bytes, vector-from, length-vector_bytes, length-vector_from, counts-below, count-from, vector-agree, zeros-at, stamp-limits}
@@ -222,6 +222,10 @@ decode-padded b n =
     rw take-length
     (decode-agree (b ++ drop (length b) (replicate n 0)) b
     (padded b (drop (length b) (replicate n 0)) (λ i. get_or-drop (length b) (replicate n 0) i 0 ∙ zeros-at n (length b + i))))
+
+pub decode-set : (b : List ℕ) (n : ℕ) → length b ≤ n → decode (sets (replicate n 0) 0 b) ≡ decode b
+decode-set b n h =
+    rw (sets-front b (replicate n 0) (length b) refl (rw length-replicate h)) (rw take-length at (decode-padded b n))
 
 -- ---- a record's bytes stored field by field
 pub encode-stored :

@@ -10,7 +10,7 @@ use lib.Dec.{ltb}
 use lib.ListN.{length, drop, length-drop}
 use Rattle.notes.specs.Index.{server_ok}
 use Rattle.notes.specs.Reply.{done, given, first}
-use Rattle.notes.specs.Record.{record_size, records, record_bytes}
+use Rattle.notes.specs.Record.{record_size, record_bytes}
 use Rattle.notes.specs.Message.{message_size, message_of, records_in, records_ok, message_n, message_sender, body, brought, message_ok, check, whole, fill_unless, write, write_refusal}
 use Rattle.notes.specs.declared.message.Refusal.TheVariants.{OutOfRange, Malformed, TooShort}
 use Rattle.notes.specs.declared.index.ServerId.{ServerId}

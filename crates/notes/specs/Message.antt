@@ -1,12 +1,12 @@
 -- Update messages: a header of eight bytes, then the sender's history in order; reading one.
 -- Assumes nothing.
-use Rattle.std.specs.Prelude.{ℕ, ◌+◌, ◌*◌, ◌-◌, ◌/◌, ◌%◌, Bool, true, false, ◌&&◌, not, cond, List, [], ◌∷◌, ◌++◌, ◌≡◌, ltb, leb, eqb, length, take, drop, replicate}
+use Rattle.std.specs.Prelude.{ℕ, ◌+◌, ◌*◌, ◌-◌, ◌/◌, ◌%◌, Bool, true, false, ◌&&◌, not, cond, List, [], ◌∷◌, ◌++◌, ◌≡◌, ltb, leb, eqb, length, take, drop}
 use Rattle.std.proofs.Math.Option.{Option, map}
 use Rattle.notes.specs.Lists.{every, same}
 use Rattle.notes.specs.Bytes.{Field, field, to_bytes}
 use Rattle.notes.specs.Reply.{Reply, done, refused, Filled, given, first, fill}
-use Rattle.notes.specs.Index.{server_ok, ServerId, servers}
-use Rattle.notes.specs.Record.{record_size, decode, well_formed, records, record_bytes, Record, number_most}
+use Rattle.notes.specs.Index.{server_ok, ServerId}
+use Rattle.notes.specs.Record.{record_size, decode, well_formed, records, record_bytes, Record}
 use Rattle.notes.specs.declared.message.Header.{Header}
 use Rattle.notes.specs.declared.message.Refusal.{Refusal}
 use Rattle.notes.specs.declared.message.Refusal.TheVariants.{OutOfRange, Malformed, TooShort}
@@ -15,7 +15,6 @@ use Rattle.notes.specs.declared.message.Checked.TheVariants as checked
 use Rattle.notes.specs.declared.message.Written.{Written}
 use Rattle.notes.specs.declared.message.Written.TheVariants as written
 use Rattle.notes.specs.declared.reader.Item.{Item}
-use Rattle.notes.specs.Vector.{vector, Vector}
 
 -- ---- the layout
 

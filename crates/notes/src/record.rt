@@ -76,6 +76,7 @@ impl Record {
     }
 
     // Origin below n; phone and cell in range.
+    #[tactic(auto, unfolding(crate::specs::Record::in_range))]
     fn in_range(self, n: u8) -> bool
         ensures { result ≡ in_range n self }
     {

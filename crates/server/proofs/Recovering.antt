@@ -6,9 +6,8 @@ use mathlib.Core.List.{List, ◌++◌, append_assoc, append-nil}
 use mathlib.Core.Path.{◌≡◌, ap, sym, ◌∙◌, subst}
 use native.Mathlib.Decide.{ℕ_discrete}
 use native.Mathlib.Omega.{arith}
-use borrow.Rule.Slice.PartMut.{put_mid}
 use lib.ListN.{length, take, drop, replicate, length-append, length-drop, length-set}
-use lib.Seq.{take-length, length-take-le, take_at, drop_at, drop-append-add, drop-drop, sets-eq}
+use lib.Seq.{length-take-le, take_at, drop_at, drop-append-add, drop-drop, sets, sets-eq}
 use Rattle.notes.specs.Lists.{every}
 use Rattle.notes.specs.Index.{servers}
 use Rattle.notes.specs.Vector.{at, raised}
@@ -17,7 +16,7 @@ use Rattle.notes.specs.Message.{history_most}
 use Rattle.notes.specs.declared.index.ServerId.{ServerId}
 use Rattle.notes.specs.declared.record.Record.{Record}
 use Rattle.notes.specs.declared.vector.Vector.{Vector}
-use Rattle.notes.proofs.Lists.{both, flat_map-append, put_rest}
+use Rattle.notes.proofs.Lists.{both, flat_map-append, sets-front}
 use Rattle.notes.proofs.Numbers.{AllBelow, below-drop}
 use Rattle.notes.proofs.Records.{length-records}
 use Rattle.notes.proofs.Vectors.{at-raised, at-raised-other}
@@ -37,27 +36,27 @@ use Rattle.server.specs.Forms.{Suited, recovered_bytes}
 
 -- a and b copied to the front one behind the other, and zeros up to a size
 put_two :
-    (k j size : ℕ) (h a b h1 y z : List ℕ)
+    (k j size : ℕ) (h a b h1 h2 z : List ℕ)
     → length a ≡ k
     → length b ≡ j
     → k + j ≤ size
     → size ≤ length h
-    → h1 ≡ take (length a) a ++ drop (length a) h
-    → y ≡ take (length b) b ++ drop (length b) (take (length h1 - k) (drop k h1))
-    → z ≡ take (k + j) (put_mid k (length h1 - k) h1 y) ++ (replicate (size - (k + j)) 0 ++ drop size (put_mid k (length h1 - k) h1 y))
+    → h1 ≡ sets h 0 a
+    → h2 ≡ sets h1 k b
+    → z ≡ take (k + j) h2 ++ (replicate (size - (k + j)) 0 ++ drop size h2)
     → z ≡ a ++ b ++ replicate (size - (k + j)) 0 ++ drop size h
-put_two k j size h a b h1 y z la lb fits long e1 e2 e3 =
+put_two k j size h a b h1 h2 z la lb fits long e1 e2 e3 =
     rw both-put at e3 ∙ rw (front, behind) (sym (append_assoc (a ++ b) (replicate (size - (k + j)) 0) (drop size h)))
   where
     one : h1 ≡ a ++ drop k h
-    one = e1 ∙ rw (take-length, la)
+    one = e1 ∙ sets-front a h k la (omega arith)
 
     length-one : length h1 ≡ length h
     length-one = ap length one ∙ rw (length-append, length-drop, la) (omega arith)
 
-    both-put : put_mid k (length h1 - k) h1 y ≡ a ++ b ++ drop (k + j) h
+    both-put : h2 ≡ a ++ b ++ drop (k + j) h
     both-put =
-        put_rest k h1 b y (omega (arith, length-one)) e2
+        e2
         ∙ sets-eq b h1 k (omega (arith, length-one))
         ∙ rw (one, take_at a (drop k h) k la, ← drop-drop, drop_at a (drop k h) k la, lb, drop-drop)
 
@@ -77,21 +76,19 @@ put_two k j size h a b h1 y z la lb fits long e1 e2 e3 =
 
 -- the same of two parts of an image, as `&image[p..p + k]` has them
 pub put-parts :
-    (p k q j size : ℕ) (image h h1 y z : List ℕ)
+    (p k q j size : ℕ) (image h h1 h2 z : List ℕ)
     → p + k ≤ length image
     → q + j ≤ length image
     → k + j ≤ size
     → size ≤ length h
-    → let a = take (p + k - p) (drop p image) in
-    let b = take (q + j - q) (drop q image) in
-    h1 ≡ take (length a) a ++ drop (length a) h
-    → y ≡ take (length b) b ++ drop (length b) (take (length h1 - k) (drop k h1))
-    → z ≡ take (k + j) (put_mid k (length h1 - k) h1 y) ++ (replicate (size - (k + j)) 0 ++ drop size (put_mid k (length h1 - k) h1 y))
+    → h1 ≡ sets h 0 (take (p + k - p) (drop p image))
+    → h2 ≡ sets h1 k (take (q + j - q) (drop q image))
+    → z ≡ take (k + j) h2 ++ (replicate (size - (k + j)) 0 ++ drop size h2)
     → z ≡ take k (drop p image) ++ take j (drop q image) ++ replicate (size - (k + j)) 0 ++ drop size h
-put-parts p k q j size image h h1 y z la lb fits long e1 e2 e3 =
+put-parts p k q j size image h h1 h2 z la lb fits long e1 e2 e3 =
     let f : p + k - p ≡ k = omega arith in
     let g : q + j - q ≡ j = omega arith in
-    put_two k j size h (take k (drop p image)) (take j (drop q image)) h1 y z
+    put_two k j size h (take k (drop p image)) (take j (drop q image)) h1 h2 z
     (length-take-le k (drop p image) (rw length-drop (omega arith)))
     (length-take-le j (drop q image) (rw length-drop (omega arith)))
     fits

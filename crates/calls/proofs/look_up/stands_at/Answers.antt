@@ -16,14 +16,14 @@ use Rattle.calls.proofs.look_up.stands_at.Goals as goal
 
 pub find-requires : goal.find-requires
 find-requires c =
-    let unrefused : look_up_refusal c.args.image.now c.args.origin ≡ none = sym c.first_refusal.ensures ∙ ap verdict_refusal c.enum_told-1.given.1 in
+    let unrefused : look_up_refusal c.args.image.now c.args.origin ≡ none = sym c.in_default.ensures in
     let passed : Accepted c.args.image.now c.args.origin = accepted _ _ unrefused in
     let known = passed in
     rw c.counts-held.ensures (simp (length-take, length-drop) (omega arith, known.origin))
 
 pub find-requires-2 : goal.find-requires-2
 find-requires-2 c =
-    let unrefused : look_up_refusal c.args.image.now c.args.origin ≡ none = sym c.first_refusal.ensures ∙ ap verdict_refusal c.enum_told-1.given.1 in
+    let unrefused : look_up_refusal c.args.image.now c.args.origin ≡ none = sym c.in_default.ensures in
     let passed : Accepted c.args.image.now c.args.origin = accepted _ _ unrefused in
     let known = passed in
     rw c.counts-held.ensures (simp (length-take, length-drop) (omega arith, known.origin))
@@ -31,101 +31,92 @@ find-requires-2 c =
 pub returns-in-At : goal.returns-in-At
 unfolding stands_at
 returns-in-At c =
-    let unrefused : look_up_refusal c.args.image.now c.args.origin ≡ none = sym c.first_refusal.ensures ∙ ap verdict_refusal c.enum_told-1.given.1 in
+    let unrefused : look_up_refusal c.args.image.now c.args.origin ≡ none = sym c.in_default.ensures in
     let kept_at : Option ℕ = place_of c.args.origin c.args.number (checkpoint c.args.image.now) in
     let passed : Accepted c.args.image.now c.args.origin = accepted _ _ unrefused in
-    let searched : placed c.find.result ≡ kept_at = rw c.counts-held.ensures at c.find.ensures ∙ kept-place _ _ _ passed in
-    let kept : kept_at ≡ some c.k-in-At-1.given.0.0 = sym searched ∙ ap placed c.k-in-At-1.given.1 in
+    let kept : kept_at ≡ some c.in-At.k = sym ((rw c.counts-held.ensures at c.in-At.ensures) ∙ kept-place _ _ _ passed) in
     rw (unrefused, kept)
 
 pub returns-in_default-find-2 : goal.returns-in_default-find-2
 unfolding stands_at
 returns-in_default-find-2 c =
-    let unrefused : look_up_refusal c.args.image.now c.args.origin ≡ none = sym c.first_refusal.ensures ∙ ap verdict_refusal c.enum_told-1.given.1 in
+    let unrefused : look_up_refusal c.args.image.now c.args.origin ≡ none = sym c.in_default.ensures in
     let kept_at : Option ℕ = place_of c.args.origin c.args.number (checkpoint c.args.image.now) in
     let passed : Accepted c.args.image.now c.args.origin = accepted _ _ unrefused in
-    let searched : placed c.find.result ≡ kept_at = rw c.counts-held.ensures at c.find.ensures ∙ kept-place _ _ _ passed in
-    let not-kept : kept_at ≡ none = sym searched ∙ ap placed c.enum_told-in_default-find-1.given.1 in
+    let not-kept : kept_at ≡ none = sym ((rw c.counts-held.ensures at c.in_default-find.ensures) ∙ kept-place _ _ _ passed) in
     let logged_at : Option ℕ = place_of c.args.origin c.args.number (log c.args.image.now) in
-    let searched-log : placed c.find-2.result ≡ logged_at = rw c.counts-held.ensures at c.find-2.ensures ∙ logged-place _ _ _ passed in
-    let not-logged : logged_at ≡ none = sym searched-log ∙ ap placed c.enum_told-in_default-find-2-1.given.1 in
+    let not-logged : logged_at ≡ none = sym ((rw c.counts-held.ensures at c.in_default-find-2.ensures) ∙ logged-place _ _ _ passed) in
     rw (unrefused, not-kept, not-logged)
 
 pub returns : goal.returns
 unfolding stands_at
 returns c =
-    let unrefused : look_up_refusal c.args.image.now c.args.origin ≡ none = sym c.first_refusal.ensures ∙ ap verdict_refusal c.enum_told-1.given.1 in
+    let unrefused : look_up_refusal c.args.image.now c.args.origin ≡ none = sym c.in_default.ensures in
     let kept_at : Option ℕ = place_of c.args.origin c.args.number (checkpoint c.args.image.now) in
     let passed : Accepted c.args.image.now c.args.origin = accepted _ _ unrefused in
-    let searched : placed c.find.result ≡ kept_at = rw c.counts-held.ensures at c.find.ensures ∙ kept-place _ _ _ passed in
-    let not-kept : kept_at ≡ none = sym searched ∙ ap placed c.enum_told-in_default-find-1.given.1 in
+    let not-kept : kept_at ≡ none = sym ((rw c.counts-held.ensures at c.in_default-find.ensures) ∙ kept-place _ _ _ passed) in
     let logged_at : Option ℕ = place_of c.args.origin c.args.number (log c.args.image.now) in
-    let searched-log : placed c.find-2.result ≡ logged_at = rw c.counts-held.ensures at c.find-2.ensures ∙ logged-place _ _ _ passed in
-    let logged : logged_at ≡ some c.k-in-At-find-2-1.given.0.0 = sym searched-log ∙ ap placed c.k-in-At-find-2-1.given.1 in
+    let logged : logged_at ≡ some c.in-At-find.k = sym ((rw c.counts-held.ensures at c.in-At-find.ensures) ∙ logged-place _ _ _ passed) in
     rw (unrefused, not-kept, logged)
 
 pub counts-held-requires : goal.counts-held-requires
 counts-held-requires c =
-    let unrefused : look_up_refusal c.args.image.now c.args.origin ≡ none = sym c.first_refusal.ensures ∙ ap verdict_refusal c.enum_told-1.given.1 in
+    let unrefused : look_up_refusal c.args.image.now c.args.origin ≡ none = sym c.in_default.ensures in
     let passed : Accepted c.args.image.now c.args.origin = accepted _ _ unrefused in
     passed.image.long
 
 pub slice_bounds-checkpoint-end : goal.slice_bounds-checkpoint-end
 slice_bounds-checkpoint-end c =
-    let unrefused : look_up_refusal c.args.image.now c.args.origin ≡ none = sym c.first_refusal.ensures ∙ ap verdict_refusal c.enum_told-1.given.1 in
+    let unrefused : look_up_refusal c.args.image.now c.args.origin ≡ none = sym c.in_default.ensures in
     let passed : Accepted c.args.image.now c.args.origin = accepted _ _ unrefused in
     omega (arith, passed.image.long)
 
 pub overflow_mul-result : goal.overflow_mul-result
 unfolding checkpoint
 overflow_mul-result c =
-    let unrefused : look_up_refusal c.args.image.now c.args.origin ≡ none = sym c.first_refusal.ensures ∙ ap verdict_refusal c.enum_told-1.given.1 in
+    let unrefused : look_up_refusal c.args.image.now c.args.origin ≡ none = sym c.in_default.ensures in
     let passed : Accepted c.args.image.now c.args.origin = accepted _ _ unrefused in
     let kept_at : Option ℕ = place_of c.args.origin c.args.number (checkpoint c.args.image.now) in
-    let searched : placed c.find.result ≡ kept_at = rw c.counts-held.ensures at c.find.ensures ∙ kept-place _ _ _ passed in
-    let kept : kept_at ≡ some c.k-in-At-1.given.0.0 = sym searched ∙ ap placed c.k-in-At-1.given.1 in
-    let kept-below : c.k-in-At-1.given.0.0 < history_most = let few = passed.image.kept in
+    let kept : kept_at ≡ some c.in-At.k = sym ((rw c.counts-held.ensures at c.in-At.ensures) ∙ kept-place _ _ _ passed) in
+    let kept-below : c.in-At.k < history_most = let few = passed.image.kept in
     omega (arith, place-among _ _ _ _ _ kept) in
     omega (arith, kept-below)
 
 pub overflow_add-result : goal.overflow_add-result
 unfolding checkpoint
 overflow_add-result c =
-    let unrefused : look_up_refusal c.args.image.now c.args.origin ≡ none = sym c.first_refusal.ensures ∙ ap verdict_refusal c.enum_told-1.given.1 in
+    let unrefused : look_up_refusal c.args.image.now c.args.origin ≡ none = sym c.in_default.ensures in
     let passed : Accepted c.args.image.now c.args.origin = accepted _ _ unrefused in
     let kept_at : Option ℕ = place_of c.args.origin c.args.number (checkpoint c.args.image.now) in
-    let searched : placed c.find.result ≡ kept_at = rw c.counts-held.ensures at c.find.ensures ∙ kept-place _ _ _ passed in
-    let kept : kept_at ≡ some c.k-in-At-1.given.0.0 = sym searched ∙ ap placed c.k-in-At-1.given.1 in
-    let kept-below : c.k-in-At-1.given.0.0 < history_most = let few = passed.image.kept in
+    let kept : kept_at ≡ some c.in-At.k = sym ((rw c.counts-held.ensures at c.in-At.ensures) ∙ kept-place _ _ _ passed) in
+    let kept-below : c.in-At.k < history_most = let few = passed.image.kept in
     omega (arith, place-among _ _ _ _ _ kept) in
     omega (arith, kept-below)
 
 pub slice_bounds-log-end : goal.slice_bounds-log-end
 slice_bounds-log-end c =
-    let unrefused : look_up_refusal c.args.image.now c.args.origin ≡ none = sym c.first_refusal.ensures ∙ ap verdict_refusal c.enum_told-1.given.1 in
+    let unrefused : look_up_refusal c.args.image.now c.args.origin ≡ none = sym c.in_default.ensures in
     let passed : Accepted c.args.image.now c.args.origin = accepted _ _ unrefused in
     omega (arith, passed.image.long)
 
 pub overflow_mul-result-2 : goal.overflow_mul-result-2
 unfolding log
 overflow_mul-result-2 c =
-    let unrefused : look_up_refusal c.args.image.now c.args.origin ≡ none = sym c.first_refusal.ensures ∙ ap verdict_refusal c.enum_told-1.given.1 in
+    let unrefused : look_up_refusal c.args.image.now c.args.origin ≡ none = sym c.in_default.ensures in
     let passed : Accepted c.args.image.now c.args.origin = accepted _ _ unrefused in
     let logged_at : Option ℕ = place_of c.args.origin c.args.number (log c.args.image.now) in
-    let searched-log : placed c.find-2.result ≡ logged_at = rw c.counts-held.ensures at c.find-2.ensures ∙ logged-place _ _ _ passed in
-    let logged : logged_at ≡ some c.k-in-At-find-2-1.given.0.0 = sym searched-log ∙ ap placed c.k-in-At-find-2-1.given.1 in
-    let logged-below : c.k-in-At-find-2-1.given.0.0 < log_most = let few = passed.image.logged in
+    let logged : logged_at ≡ some c.in-At-find.k = sym ((rw c.counts-held.ensures at c.in-At-find.ensures) ∙ logged-place _ _ _ passed) in
+    let logged-below : c.in-At-find.k < log_most = let few = passed.image.logged in
     omega (arith, place-among _ _ _ _ _ logged) in
     omega (arith, logged-below)
 
 pub overflow_add-result-2 : goal.overflow_add-result-2
 unfolding log
 overflow_add-result-2 c =
-    let unrefused : look_up_refusal c.args.image.now c.args.origin ≡ none = sym c.first_refusal.ensures ∙ ap verdict_refusal c.enum_told-1.given.1 in
+    let unrefused : look_up_refusal c.args.image.now c.args.origin ≡ none = sym c.in_default.ensures in
     let passed : Accepted c.args.image.now c.args.origin = accepted _ _ unrefused in
     let logged_at : Option ℕ = place_of c.args.origin c.args.number (log c.args.image.now) in
-    let searched-log : placed c.find-2.result ≡ logged_at = rw c.counts-held.ensures at c.find-2.ensures ∙ logged-place _ _ _ passed in
-    let logged : logged_at ≡ some c.k-in-At-find-2-1.given.0.0 = sym searched-log ∙ ap placed c.k-in-At-find-2-1.given.1 in
-    let logged-below : c.k-in-At-find-2-1.given.0.0 < log_most = let few = passed.image.logged in
+    let logged : logged_at ≡ some c.in-At-find.k = sym ((rw c.counts-held.ensures at c.in-At-find.ensures) ∙ logged-place _ _ _ passed) in
+    let logged-below : c.in-At-find.k < log_most = let few = passed.image.logged in
     omega (arith, place-among _ _ _ _ _ logged) in
     omega (arith, logged-below)

@@ -13,30 +13,30 @@ use Rattle.calls.proofs.message.message.Goals as goal
 pub returns-in-Refused : goal.returns-in-Refused
 returns-in-Refused c =
     let found : Memory = memory c.args.s c.args.history.now c.args.image.now in
-    sym (message-refused found c.args.out.now _ (sym (ap verdict_refusal c.k-1.given.1) ∙ c.up_head.ensures))
+    sym (message-refused found c.args.out.now _ (c.in-Refused.ensures))
 
 pub returns-then-out-len : goal.returns-then-out-len
 returns-then-out-len c =
     let found : Memory = memory c.args.s c.args.history.now c.args.image.now in
-    let passed : none ≡ first (head found (is_down found)) = sym (ap verdict_refusal c.enum_told-1.given.1) ∙ c.up_head.ensures in
+    let passed : none ≡ first (head found (is_down found)) = c.in_default.ensures in
     sym (message-short found c.args.out.now passed c.if-out-len.true)
 
 pub slice_bounds-put_message-end : goal.slice_bounds-put_message-end
 slice_bounds-put_message-end c =
     let found : Memory = memory c.args.s c.args.history.now c.args.image.now in
-    let passed : none ≡ first (head found (is_down found)) = sym (ap verdict_refusal c.enum_told-1.given.1) ∙ c.up_head.ensures in
+    let passed : none ≡ first (head found (is_down found)) = c.in_default.ensures in
     sym (length-bytes found passed)
 
 pub put_message-requires : goal.put_message-requires
 put_message-requires c =
     let found : Memory = memory c.args.s c.args.history.now c.args.image.now in
-    let passed : none ≡ first (head found (is_down found)) = sym (ap verdict_refusal c.enum_told-1.given.1) ∙ c.up_head.ensures in
+    let passed : none ≡ first (head found (is_down found)) = c.in_default.ensures in
     let few = held-few found passed in
     rw (length-bytes found passed) (omega (arith, c.if-out-len.false), omega arith, omega arith)
 
 pub returns : goal.returns
 returns c =
     let found : Memory = memory c.args.s c.args.history.now c.args.image.now in
-    let passed : none ≡ first (head found (is_down found)) = sym (ap verdict_refusal c.enum_told-1.given.1) ∙ c.up_head.ensures in
+    let passed : none ≡ first (head found (is_down found)) = c.in_default.ensures in
     rw c.put_message.ensures
     (sym (message-filled found c.args.out.now passed c.if-out-len.false))

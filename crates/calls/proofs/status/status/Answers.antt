@@ -7,9 +7,9 @@ use Rattle.calls.proofs.status.status.Goals as goal
 pub returns-in-Refused : goal.returns-in-Refused
 unfolding status
 returns-in-Refused c =
-    rw (← c.up_head.ensures, c.k-1.given.1)
+    rw (← c.in-Refused.ensures)
 
 pub returns : goal.returns
 unfolding status
 returns c =
-    rw (← c.up_head.ensures, c.enum_told-1.given.1, c.phones_in.ensures)
+    rw (← c.in_default.ensures, c.phones_in.ensures)

@@ -5,7 +5,7 @@ use borrow.Author.Rules.{rules}
 use Rattle.examples.proofs.quiet.writes.Given as goal
 
 abbrev pub invariant-loop-i : goal.invariant-loop-i
-invariant-loop-i l = i ≤ l.count
+invariant-loop-i l = l.i ≤ l.count
 
 abbrev pub decreases-loop-i : goal.decreases-loop-i
-decreases-loop-i l = l.count - i
+decreases-loop-i l = l.count - l.i

@@ -17,4 +17,4 @@ loop-i-init c =
 
 pub loop-i-preserved : goal.loop-i-preserved
 loop-i-preserved c =
-    (search rules, rw c.loop-i.invariant.1 (sym (every_more (λ x. eqb x 0) c.args.t1.counts c.loop-i.i 0 (search rules))))
+    (search rules, rw c.loop-i.invariant.1 (sym (every_more (λ x. eqb x 0) c.args.rw.counts c.loop-i.i 0 (search rules))))

@@ -16,7 +16,7 @@ loop-i-init c =
 
 pub loop-i-preserved : goal.loop-i-preserved
 loop-i-preserved c =
-    let eight : length c.args.t1.counts ≡ 8 = search rules in
-    let alike : length c.args.t1.counts ≡ length c.args.t2.counts = let other : length c.args.t2.counts ≡ 8 = search rules in
+    let eight : length c.args.a.counts ≡ 8 = search rules in
+    let alike : length c.args.a.counts ≡ length c.args.b.counts = let other : length c.args.b.counts ≡ 8 = search rules in
     eight ∙ sym other in
-    (search rules, rw c.loop-i.invariant.1 (sym (same_more c.args.t1.counts c.args.t2.counts alike c.loop-i.i (search rules))))
+    (search rules, rw c.loop-i.invariant.1 (sym (same_more c.args.a.counts c.args.b.counts alike c.loop-i.i (search rules))))

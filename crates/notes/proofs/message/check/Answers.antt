@@ -2,11 +2,9 @@
 -- Assumes nothing.
 use mathlib.Core.Path.{sym, ◌∙◌}
 use native.Mathlib.Omega.{arith}
-use borrow.Author.Tests.{not-true, not-false}
 use Rattle.notes.specs.Message.{header_size}
 use Rattle.notes.proofs.Lists.{rest}
 use Rattle.notes.proofs.Messages.{Suits, suits, server-facts, n-at, check-no-header, check-no-record, check-passed}
-use borrow.Author.Rules.{rules}
 use Rattle.notes.proofs.message.check.Goals as goal
 
 pub returns-then-not-header_ok : goal.returns-then-not-header_ok

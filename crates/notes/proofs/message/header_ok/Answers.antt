@@ -4,13 +4,12 @@ use Prim.Native.Nat.{◌+◌, ◌*◌}
 use mathlib.Core.Bool.{and-false}
 use mathlib.Core.Path.{sym, ◌∙◌}
 use native.Mathlib.Omega.{arith}
-use borrow.Author.Tests.{lt-leb, le-leb, ne_eqb, eq-eqb, not-true, not-false}
+use borrow.Author.Tests.{lt-leb, le-leb, ne_eqb, eq-eqb}
 use lib.ListN.{length}
 use Rattle.notes.specs.Bytes.{field}
 use Rattle.notes.specs.Message.{count_field, offset_field, total_field}
 use Rattle.notes.specs.Forms.{header_ok}
 use Rattle.notes.proofs.Messages.{server-at}
-use borrow.Author.Rules.{rules}
 use Rattle.notes.proofs.message.header_ok.Goals as goal
 
 pub returns-then-m-lt-LEN : goal.returns-then-m-lt-LEN

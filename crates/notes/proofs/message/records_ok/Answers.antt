@@ -2,11 +2,10 @@
 -- Assumes nothing.
 use Prim.Native.Nat.{◌/◌}
 use mathlib.Core.Bool.{and-false}
-use borrow.Author.Tests.{ne_eqb, eq-eqb, lt-leb, le-leb}
+use borrow.Author.Tests.{eq-eqb, lt-leb, le-leb}
 use lib.ListN.{length}
 use Rattle.notes.specs.Message.{records_ok}
 use Rattle.notes.proofs.Records.{length-records}
-use borrow.Author.Rules.{rules}
 use Rattle.notes.proofs.message.records_ok.Goals as goal
 
 pub returns-then-b-gt-WRITES_MOST : goal.returns-then-b-gt-WRITES_MOST

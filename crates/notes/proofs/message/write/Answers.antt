@@ -3,7 +3,6 @@
 use mathlib.Core.Bool.{true, ◌&&◌}
 use mathlib.Core.Path.{◌≡◌, sym, ◌∙◌}
 use native.Mathlib.Omega.{arith}
-use borrow.Author.Tests.{not-true, not-false}
 use Rattle.notes.specs.Index.{server_ok}
 use Rattle.notes.specs.Message.{whole, records_ok, records_in}
 use Rattle.notes.proofs.Messages.{server-facts, whole-facts, write-1, write-6, write-9, write_done}

@@ -1,13 +1,7 @@
 -- `reader::place_after` meets its contract.
 -- Assumes nothing.
 use mathlib.Core.Path.{sym, ◌∙◌}
-use native.Mathlib.Omega.{arith}
-use borrow.Author.Tests.{leb-true}
-use Prim.Native.Nat.{◌-◌}
-use lib.ListN.{length}
-use Rattle.notes.specs.Record.{record_size}
 use Rattle.notes.proofs.Reading.{place_found, place_none}
-use borrow.Author.Rules.{rules}
 use Rattle.notes.proofs.reader.place_after.Goals as goal
 
 pub returns-then-whole_at : goal.returns-then-whole_at

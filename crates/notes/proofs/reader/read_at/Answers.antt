@@ -3,13 +3,7 @@
 use mathlib.Core.Bool.{true, false}
 use mathlib.Core.Path.{sym, ◌∙◌}
 use native.Mathlib.Nat.{add-sub_cancel_left}
-use native.Mathlib.Omega.{arith}
-use borrow.Author.Tests.{leb-true}
-use Prim.Native.Nat.{◌-◌, ◌≤◌}
-use lib.ListN.{length, length-take, length-drop}
-use Rattle.notes.specs.Record.{record_size}
 use Rattle.notes.proofs.Reading.{read_found, read_none}
-use borrow.Author.Rules.{rules}
 use Rattle.notes.proofs.reader.read_at.Goals as goal
 
 pub returns-then-whole_at : goal.returns-then-whole_at

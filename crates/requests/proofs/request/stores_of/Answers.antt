@@ -19,7 +19,7 @@ read_stores-requires c =
 pub returns-in-Write : goal.returns-in-Write
 returns-in-Write c =
     let found : Memory = memory c.args.s c.args.history.now c.args.image.now in
-    let is = c.enum_told-1.given.1 in
+    let is = c.in-Write.is in
     sym
     (ap (λ (q : Request). length (plan found c.args.phone q)) is
     ∙ write-stores found c.args.phone _ _ _ (subst (Admitted found c.args.phone) is c.requires))

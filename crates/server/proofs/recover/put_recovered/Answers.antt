@@ -16,12 +16,12 @@ returns c =
     let j = record_size * a.added in
     let p = log_place (a.counts.log - a.added) in
     let rest : history_size - (k + j) ≡ history_size - record_size * (a.counts.checkpoint + a.added) = omega arith in
-    put-parts checkpoint_at k p j history_size a.image.now a.history.now c.put_bytes.last.1.0 c.put_bytes-2.last.1.0 _
+    put-parts checkpoint_at k p j history_size a.image.now a.history.now c.put_bytes.new.out c.put_bytes-2.new.out _
     (omega (arith, c.requires.image, c.requires.few))
     (omega (arith, c.requires.image, c.requires.fits, c.requires.logged))
     (omega (arith, c.requires.few))
     c.requires.history
-    c.put_bytes.ensures.1
-    c.put_bytes-2.ensures.1
+    c.put_bytes.ensures
+    c.put_bytes-2.ensures
     c.zero.ensures
     ∙ rw rest

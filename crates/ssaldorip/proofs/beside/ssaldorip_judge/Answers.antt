@@ -27,7 +27,7 @@ returns-in-Passed c =
     ∙ ap (λ (r : Reply). r.number) c.judge-verdict.ensures
     ∙ ap (λ (s : State). (judge (memory s l.history l.image)).number) c.state_of-s.ensures
     ∙ judging-done l c.if-state-lt-LEN.false) in
-    answer Passed c.enum_told-1.given.1
+    answer Passed c.in-Passed.is
 
 pub returns-in-Refused : goal.returns-in-Refused
 returns-in-Refused c =
@@ -37,4 +37,4 @@ returns-in-Refused c =
     ∙ ap (λ (r : Reply). r.number) c.judge-verdict.ensures
     ∙ ap (λ (s : State). (judge (memory s l.history l.image)).number) c.state_of-s.ensures
     ∙ judging-done l c.if-state-lt-LEN.false) in
-    c.number.ensures ∙ answer (Refused _) c.verdict-1.given.1
+    c.number.ensures ∙ answer (Refused _) c.in-Refused.is

@@ -18,24 +18,24 @@ told f = value_or (found_reply f)
 
 pub overflow_cast-result : goal.overflow_cast-result
 overflow_cast-result c =
-    omega (arith, place-within _ _ _ _ (sym (ap found_reply c.found-1.given.1) ∙ c.stands_at-found.ensures))
+    omega (arith, place-within _ _ _ _ (sym (ap found_reply c.in-At.is) ∙ c.stands_at-found.ensures))
 
 pub returns-in-At : goal.returns-in-At
 returns-in-At c =
     let asked : ℕ = let i = c.args.image.now in let o = server c.args.origin in place_or_number (look_up_refusal i o) (stands_at i o c.args.number) in
     let answer : told c.stands_at-found.result ≡ asked = ap value_or c.stands_at-found.ensures ∙ place-or-number _ _ in
-    sym (ap told c.found-1.given.1) ∙ answer
+    sym (ap told c.in-At.is) ∙ answer
 
 pub returns-in-NotThere : goal.returns-in-NotThere
 returns-in-NotThere c =
     let asked : ℕ = let i = c.args.image.now in let o = server c.args.origin in place_or_number (look_up_refusal i o) (stands_at i o c.args.number) in
     let answer : told c.stands_at-found.result ≡ asked = ap value_or c.stands_at-found.ensures ∙ place-or-number _ _ in
-    sym (ap told c.enum_told-1.given.1) ∙ answer
+    sym (ap told c.in-NotThere.is) ∙ answer
 
 pub returns-in-Refused : goal.returns-in-Refused
 returns-in-Refused c =
     let asked : ℕ = let i = c.args.image.now in let o = server c.args.origin in place_or_number (look_up_refusal i o) (stands_at i o c.args.number) in
     let answer : told c.stands_at-found.result ≡ asked = ap value_or c.stands_at-found.ensures ∙ place-or-number _ _ in
     c.number.ensures
-    ∙ sym (ap told c.found-in-Refused-1.given.1)
+    ∙ sym (ap told c.in-Refused.is)
     ∙ answer

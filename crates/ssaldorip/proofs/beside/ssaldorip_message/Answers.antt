@@ -20,19 +20,19 @@ returns-then-state-lt-LEN c =
 pub returns-in-Bytes : goal.returns-in-Bytes
 returns-in-Bytes c =
     let buffers : Lent = lent c.args.state.now c.args.history.now c.args.image.now c.args.out.now in
-    let answer : (a : Message) → c.message-told.result ≡ a → left (message_reply a).number c.message-told.new.1.1.1.0 ≡ fills message_in buffers = (λ a e. let l = buffers in
-    ap (λ (a : Message). answered (message_filled a c.message-told.new.1.1.1.0)) (sym e)
+    let answer : (a : Message) → c.message-told.result ≡ a → left (message_reply a).number c.message-told.new.out ≡ fills message_in buffers = (λ a e. let l = buffers in
+    ap (λ (a : Message). answered (message_filled a c.message-told.new.out)) (sym e)
     ∙ ap answered c.message-told.ensures
     ∙ ap (λ (s : State). message_in (memory s l.history l.image) l.reply) c.state_of-s.ensures
     ∙ fills-done message_in l c.if-state-lt-LEN.false) in
-    answer (Bytes _) c.enum_told-1.given.1
+    answer (Bytes _) c.in-Bytes.is
 
 pub returns-in-Refused : goal.returns-in-Refused
 returns-in-Refused c =
     let buffers : Lent = lent c.args.state.now c.args.history.now c.args.image.now c.args.out.now in
-    let answer : (a : Message) → c.message-told.result ≡ a → left (message_reply a).number c.message-told.new.1.1.1.0 ≡ fills message_in buffers = (λ a e. let l = buffers in
-    ap (λ (a : Message). answered (message_filled a c.message-told.new.1.1.1.0)) (sym e)
+    let answer : (a : Message) → c.message-told.result ≡ a → left (message_reply a).number c.message-told.new.out ≡ fills message_in buffers = (λ a e. let l = buffers in
+    ap (λ (a : Message). answered (message_filled a c.message-told.new.out)) (sym e)
     ∙ ap answered c.message-told.ensures
     ∙ ap (λ (s : State). message_in (memory s l.history l.image) l.reply) c.state_of-s.ensures
     ∙ fills-done message_in l c.if-state-lt-LEN.false) in
-    rw c.number.ensures (answer (Refused _) c.told-1.given.1)
+    rw c.number.ensures (answer (Refused _) c.in-Refused.is)

@@ -22,6 +22,6 @@ returns c =
     let buffers : Lent = lent c.args.state.now c.args.history.now c.args.image.now [] in
     let starting : Memory → Effect = (λ m. start c.args.n (server c.args.own) m.history m.image) in
     let l = buffers in
-    let e = effect_of c.start-o.result c.start-o.last.1.1.0 c.start-o.last.1.1.1.0 in
+    let e = effect_of c.start-o.result c.start-o.new.history c.start-o.new.image in
     rw (c.settled.ensures.0, c.settled.ensures.1)
     (plain-met l.state l.history l.image vector_size starting (start-same c.args.n (server c.args.own) l) c.if-state-lt-LEN.false (omega arith) e c.start-o.ensures)

@@ -26,7 +26,7 @@ returns-in-Refused c =
     ∙ c.status-found.ensures
     ∙ ap (λ (s : State). status (memory s l.history l.image)) c.state_of-s.ensures)
     ∙ fills-done status_in l c.if-state-lt-LEN.false) in
-    rw c.number.ensures (answer (Refused _) c.found-1.given.1)
+    rw c.number.ensures (answer (Refused _) c.in-Refused.is)
 
 pub returns-in-Nobody : goal.returns-in-Nobody
 returns-in-Nobody c =
@@ -37,7 +37,7 @@ returns-in-Nobody c =
     ∙ c.status-found.ensures
     ∙ ap (λ (s : State). status (memory s l.history l.image)) c.state_of-s.ensures)
     ∙ fills-done status_in l c.if-state-lt-LEN.false) in
-    c.put_status.ensures ∙ answer Nobody c.enum_told-1.given.1
+    c.put_status.ensures ∙ answer Nobody c.in-Nobody.is
 
 pub returns-in-Phones : goal.returns-in-Phones
 returns-in-Phones c =
@@ -48,4 +48,4 @@ returns-in-Phones c =
     ∙ c.status-found.ensures
     ∙ ap (λ (s : State). status (memory s l.history l.image)) c.state_of-s.ensures)
     ∙ fills-done status_in l c.if-state-lt-LEN.false) in
-    c.put_status-in-Phones.ensures ∙ answer (Phones _ _) c.found-in-Phones-1.given.1
+    c.put_status-in-Phones.ensures ∙ answer (Phones _ _) c.in-Phones.is

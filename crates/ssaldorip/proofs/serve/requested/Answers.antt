@@ -44,7 +44,7 @@ unfolding step
 put_reply-requires c =
     let lent_to : Lent = let a = c.args in lent a.state.now a.history.now a.image.now a.reply.now in
     let asks : Memory → Effect = let a = c.args in happening a.server (what.Request (phone a.phone) a.q) (vector_from a.asked.now) [] in
-    let outcome : Effect = effect_of c.request-o.result c.request-o.new.1.1.1.1.1.0 c.request-o.new.1.1.1.1.1.1.0 in
+    let outcome : Effect = effect_of c.request-o.result c.request-o.new.history c.request-o.new.image in
     let is : outcome ≡ asks (memory_of lent_to) = let a = c.args in
     c.request-o.ensures
     ∙ ap (λ (s : State). request (memory s a.history.now a.image.now) (server a.server) (phone a.phone) a.q c.vector_at-v.result) c.state_of-s.ensures
@@ -58,7 +58,7 @@ unfolding step
 returns c =
     let lent_to : Lent = let a = c.args in lent a.state.now a.history.now a.image.now a.reply.now in
     let asks : Memory → Effect = let a = c.args in happening a.server (what.Request (phone a.phone) a.q) (vector_from a.asked.now) [] in
-    let outcome : Effect = effect_of c.request-o.result c.request-o.new.1.1.1.1.1.0 c.request-o.new.1.1.1.1.1.1.0 in
+    let outcome : Effect = effect_of c.request-o.result c.request-o.new.history c.request-o.new.image in
     let is : outcome ≡ asks (memory_of lent_to) = let a = c.args in
     c.request-o.ensures
     ∙ ap (λ (s : State). request (memory s a.history.now a.image.now) (server a.server) (phone a.phone) a.q c.vector_at-v.result) c.state_of-s.ensures

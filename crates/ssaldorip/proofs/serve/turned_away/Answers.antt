@@ -16,11 +16,11 @@ returns-in-Refused c =
     let m = memory_of (lent a.state.now a.history.now a.image.now []) in
     let told = rw (c.state_of-s.ensures, c.vector_at-v.ensures) at c.request_head.ensures in
     c.number.ensures
-    ∙ away-refused m a.server (phone a.phone) a.q (vector_from a.asked.now) _ (sym told ∙ ap verdict_refusal c.k-1.given.1)
+    ∙ away-refused m a.server (phone a.phone) a.q (vector_from a.asked.now) _ (sym told ∙ ap verdict_refusal c.in-Refused.is)
 
 pub returns : goal.returns
 returns c =
     let a = c.args in
     let m = memory_of (lent a.state.now a.history.now a.image.now []) in
     let told = rw (c.state_of-s.ensures, c.vector_at-v.ensures) at c.request_head.ensures in
-    away-short m a.server (phone a.phone) a.q (vector_from a.asked.now) (sym told ∙ ap verdict_refusal c.enum_told-1.given.1)
+    away-short m a.server (phone a.phone) a.q (vector_from a.asked.now) (sym told ∙ ap verdict_refusal c.in_default.is)

@@ -25,19 +25,19 @@ pub returns-in-Refused : goal.returns-in-Refused
 returns-in-Refused c =
     let answer : (x : Chosen) → c.choose-chosen.result ≡ x
     → let a = c.args in
-    session_raise (heard_as a.written) a.session.now a.reply-vector.now
-    ≡ if_chosen x a.session.now (λ o. left 0 (onto (session_bytes (heard_as a.written (session_in o a.session.now) (vector_from a.reply-vector.now))) a.session.now)) = (λ x e. let a = c.args in
-    raise-is (heard_as a.written) a.session.now a.reply-vector.now c.if-session-lt-LEN.false c.if-reply_vector-lt-SIZE.false x
+    session_raise (heard_as a.written) a.session.now a.reply_vector.now
+    ≡ if_chosen x a.session.now (λ o. left 0 (onto (session_bytes (heard_as a.written (session_in o a.session.now) (vector_from a.reply_vector.now))) a.session.now)) = (λ x e. let a = c.args in
+    raise-is (heard_as a.written) a.session.now a.reply_vector.now c.if-session-lt-LEN.false c.if-reply_vector-lt-SIZE.false x
     (ap choose (from_one choice_field.at a.session.now) ∙ sym c.choose-chosen.ensures ∙ e)) in
-    rw c.number.ensures (sym (answer (Refused _) c.chosen-1.given.1))
+    rw c.number.ensures (sym (answer (Refused _) c.in-Refused.is))
 
 pub returns-in-As : goal.returns-in-As
 returns-in-As c =
     let answer : (x : Chosen) → c.choose-chosen.result ≡ x
     → let a = c.args in
-    session_raise (heard_as a.written) a.session.now a.reply-vector.now
-    ≡ if_chosen x a.session.now (λ o. left 0 (onto (session_bytes (heard_as a.written (session_in o a.session.now) (vector_from a.reply-vector.now))) a.session.now)) = (λ x e. let a = c.args in
-    raise-is (heard_as a.written) a.session.now a.reply-vector.now c.if-session-lt-LEN.false c.if-reply_vector-lt-SIZE.false x
+    session_raise (heard_as a.written) a.session.now a.reply_vector.now
+    ≡ if_chosen x a.session.now (λ o. left 0 (onto (session_bytes (heard_as a.written (session_in o a.session.now) (vector_from a.reply_vector.now))) a.session.now)) = (λ x e. let a = c.args in
+    raise-is (heard_as a.written) a.session.now a.reply_vector.now c.if-session-lt-LEN.false c.if-reply_vector-lt-SIZE.false x
     (ap choose (from_one choice_field.at a.session.now) ∙ sym c.choose-chosen.ensures ∙ e)) in
     rw (c.put_session.ensures, c.heard.ensures, c.session_in-before.ensures, c.vector_at-reply.ensures)
-    (sym (answer (As _) c.chosen-in-As-1.given.1))
+    (sym (answer (As _) c.in-As.is))

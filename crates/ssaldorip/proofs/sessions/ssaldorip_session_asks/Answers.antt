@@ -27,7 +27,7 @@ returns-then-asked-lt-SIZE c =
     ≡ if_chosen x c.args.asked.now (λ o. put (vector_bytes (read_carries (session_in o c.args.session.now))) c.args.asked.now) = (λ x e. asks-is c.args.session.now c.args.asked.now c.if-session-lt-LEN.false x
     (ap choose (from_one choice_field.at c.args.session.now) ∙ sym c.choose-chosen.ensures ∙ e)) in
     let eight : (o : Choice) → length (read_carries (session_in o c.args.session.now)).counts ≡ servers = (λ o. carries-eight (session_in o c.args.session.now) (in-eight o c.args.session.now)) in
-    sym (answer (As _) c.chosen-in-As-1.given.1 ∙ vector-lacks _ (eight _) c.args.asked.now c.if-asked-lt-SIZE.true)
+    sym (answer (As _) c.in-As.is ∙ vector-lacks _ (eight _) c.args.asked.now c.if-asked-lt-SIZE.true)
 
 pub returns-in-Refused : goal.returns-in-Refused
 returns-in-Refused c =
@@ -35,7 +35,7 @@ returns-in-Refused c =
     → session_asks c.args.session.now c.args.asked.now
     ≡ if_chosen x c.args.asked.now (λ o. put (vector_bytes (read_carries (session_in o c.args.session.now))) c.args.asked.now) = (λ x e. asks-is c.args.session.now c.args.asked.now c.if-session-lt-LEN.false x
     (ap choose (from_one choice_field.at c.args.session.now) ∙ sym c.choose-chosen.ensures ∙ e)) in
-    rw c.number.ensures (sym (answer (Refused _) c.chosen-1.given.1))
+    rw c.number.ensures (sym (answer (Refused _) c.in-Refused.is))
 
 pub returns-else-asked-lt-SIZE : goal.returns-else-asked-lt-SIZE
 returns-else-asked-lt-SIZE c =
@@ -45,4 +45,4 @@ returns-else-asked-lt-SIZE c =
     (ap choose (from_one choice_field.at c.args.session.now) ∙ sym c.choose-chosen.ensures ∙ e)) in
     let eight : (o : Choice) → length (read_carries (session_in o c.args.session.now)).counts ≡ servers = (λ o. carries-eight (session_in o c.args.session.now) (in-eight o c.args.session.now)) in
     rw (c.put_vector.ensures, c.read_carries.ensures, c.session_in-s.ensures)
-    (sym (answer (As _) c.chosen-in-As-1.given.1 ∙ vector-put _ (eight _) c.args.asked.now c.if-asked-lt-SIZE.false))
+    (sym (answer (As _) c.in-As.is ∙ vector-put _ (eight _) c.args.asked.now c.if-asked-lt-SIZE.false))

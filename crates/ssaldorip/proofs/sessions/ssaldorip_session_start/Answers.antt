@@ -19,11 +19,11 @@ returns-in-Refused c =
     let answer : (x : Chosen) → c.choose-chosen.result ≡ x
     → session_start c.args.choice c.args.session.now
     ≡ if_chosen x c.args.session.now (λ o. left 0 (onto (session_bytes (new_session o)) c.args.session.now)) = (λ x e. start_is c.args.choice c.args.session.now c.if-session-lt-LEN.false x (sym c.choose-chosen.ensures ∙ e)) in
-    rw c.number.ensures (sym (answer (Refused _) c.chosen-1.given.1))
+    rw c.number.ensures (sym (answer (Refused _) c.in-Refused.is))
 
 pub returns-in-As : goal.returns-in-As
 returns-in-As c =
     let answer : (x : Chosen) → c.choose-chosen.result ≡ x
     → session_start c.args.choice c.args.session.now
     ≡ if_chosen x c.args.session.now (λ o. left 0 (onto (session_bytes (new_session o)) c.args.session.now)) = (λ x e. start_is c.args.choice c.args.session.now c.if-session-lt-LEN.false x (sym c.choose-chosen.ensures ∙ e)) in
-    rw (c.put_session.ensures, c.new.ensures) (sym (answer (As _) c.chosen-in-As-1.given.1))
+    rw (c.put_session.ensures, c.new.ensures) (sym (answer (As _) c.in-As.is))

@@ -22,7 +22,7 @@ pub returns : goal.returns
 returns c =
     let a = c.args in
     let k = c.step-o in
-    let e = effect_of k.result k.last.1.1.1.1.0 k.last.1.1.1.1.1.0 in
+    let e = effect_of k.result k.new.history k.new.image in
     let q =
     k.ensures
     ∙ ap (λ (s : State). step (memory s a.history.now a.image.now) (record { server = server a.server; what = a.what }) a.asked a.message.now) c.state_of-s.ensures in

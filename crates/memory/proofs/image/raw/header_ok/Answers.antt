@@ -36,28 +36,28 @@ returns c =
 
 pub returns-then-image-n : goal.returns-then-image-n
 returns-then-image-n c =
-    omega arith))
+    sym (wrong-number _ _ _ (λ l. omega arith))
 
 pub returns-then-image-own : goal.returns-then-image-own
 returns-then-image-own c =
-    omega arith))
+    sym (wrong-number _ _ _ (λ l. omega arith))
 
 pub returns-then-u16_at-gt-WRITES_MOST : goal.returns-then-u16_at-gt-WRITES_MOST
 returns-then-u16_at-gt-WRITES_MOST c =
-    omega arith))
+    sym (wrong-number _ _ _ (λ l. omega arith))
 
 pub returns-then-u16_at-ne-CHECKPOINT_AT : goal.returns-then-u16_at-ne-CHECKPOINT_AT
 returns-then-u16_at-ne-CHECKPOINT_AT c =
-    omega arith))
+    sym (wrong-number _ _ _ (λ l. omega arith))
 
 pub returns-then-u16_at-gt-LOG_MOST : goal.returns-then-u16_at-gt-LOG_MOST
 returns-then-u16_at-gt-LOG_MOST c =
-    omega arith))
+    sym (wrong-number _ _ _ (λ l. omega arith))
 
 pub returns-then-u16_at-ne-LOG_AT : goal.returns-then-u16_at-ne-LOG_AT
 returns-then-u16_at-ne-LOG_AT c =
-    omega arith))
+    sym (wrong-number _ _ _ (λ l. omega arith))
 
 pub returns-then-u16_at-ne-LEN : goal.returns-then-u16_at-ne-LEN
 returns-then-u16_at-ne-LEN c =
-    omega arith))
+    sym (wrong-number _ _ _ (λ l. omega arith))

@@ -19,7 +19,7 @@ use Rattle.memory.proofs.image.raw.log_ok.Goals as goal
 pub returns-then-counts-added : goal.returns-then-counts-added
 returns-then-counts-added c =
     let logged : c.counts-counts.result.log ≡ log_count c.args.image.now = ap (λ (i : Image). i.log) c.counts-counts.ensures in
-    let own : c.args.kept ≡ count_of c.args.own (checkpoint c.args.image.now) = search in
+    let own : c.args.kept ≡ count_of c.args.own (checkpoint c.args.image.now) = c.requires.1 in
     let lacked : added c.args.own (checkpoint c.args.image.now) (log c.args.image.now) ≡ c.past-added.result = sym (rw (c.newest.ensures, own) at c.past-added.ensures.0) in
     let a = c.args in
     sym (log-long a.n a.own a.image.now _ lacked (omega (arith, c.if-counts-added.true, logged)))
@@ -27,15 +27,15 @@ returns-then-counts-added c =
 pub returns-then-counts-added-gt-WRITES_MOST : goal.returns-then-counts-added-gt-WRITES_MOST
 returns-then-counts-added-gt-WRITES_MOST c =
     let kept : c.counts-counts.result.checkpoint ≡ checkpoint_count c.args.image.now = ap (λ (i : Image). i.checkpoint) c.counts-counts.ensures in
-    let own : c.args.kept ≡ count_of c.args.own (checkpoint c.args.image.now) = search in
+    let own : c.args.kept ≡ count_of c.args.own (checkpoint c.args.image.now) = c.requires.1 in
     let lacked : added c.args.own (checkpoint c.args.image.now) (log c.args.image.now) ≡ c.past-added.result = sym (rw (c.newest.ensures, own) at c.past-added.ensures.0) in
     let a = c.args in
     sym (log-many a.n a.own a.image.now _ lacked (omega (arith, c.if-counts-added-gt-WRITES_MOST.true, kept)))
 
 pub own_run-requires : goal.own_run-requires
 own_run-requires c =
-    let limited : Limits c.args.n c.args.own c.args.image.now = search in
-    let own : c.args.kept ≡ count_of c.args.own (checkpoint c.args.image.now) = search in
+    let limited : Limits c.args.n c.args.own c.args.image.now = c.requires.0 in
+    let own : c.args.kept ≡ count_of c.args.own (checkpoint c.args.image.now) = c.requires.1 in
     let logged : c.counts-counts.result.log ≡ log_count c.args.image.now = ap (λ (i : Image). i.log) c.counts-counts.ensures in
     let fits : c.past-added.result ≤ log_count c.args.image.now = omega (arith, c.if-counts-added.false, logged) in
     let a = c.args in
@@ -50,7 +50,7 @@ own_run-requires c =
 
 pub returns-then-not-own_run : goal.returns-then-not-own_run
 returns-then-not-own_run c =
-    let own : c.args.kept ≡ count_of c.args.own (checkpoint c.args.image.now) = search in
+    let own : c.args.kept ≡ count_of c.args.own (checkpoint c.args.image.now) = c.requires.1 in
     let lacked : added c.args.own (checkpoint c.args.image.now) (log c.args.image.now) ≡ c.past-added.result = sym (rw (c.newest.ensures, own) at c.past-added.ensures.0) in
     let logged : c.counts-counts.result.log ≡ log_count c.args.image.now = ap (λ (i : Image). i.log) c.counts-counts.ensures in
     let fits : c.past-added.result ≤ log_count c.args.image.now = omega (arith, c.if-counts-added.false, logged) in
@@ -66,7 +66,7 @@ unfolding checkpoint
 returns c =
     let kept : c.counts-counts.result.checkpoint ≡ checkpoint_count c.args.image.now = ap (λ (i : Image). i.checkpoint) c.counts-counts.ensures in
     let logged : c.counts-counts.result.log ≡ log_count c.args.image.now = ap (λ (i : Image). i.log) c.counts-counts.ensures in
-    let own : c.args.kept ≡ count_of c.args.own (checkpoint c.args.image.now) = search in
+    let own : c.args.kept ≡ count_of c.args.own (checkpoint c.args.image.now) = c.requires.1 in
     let lacked : added c.args.own (checkpoint c.args.image.now) (log c.args.image.now) ≡ c.past-added.result = sym (rw (c.newest.ensures, own) at c.past-added.ensures.0) in
     let fits : c.past-added.result ≤ log_count c.args.image.now = omega (arith, c.if-counts-added.false, logged) in
     let runs : let a = c.args in

@@ -2,7 +2,6 @@
 -- Assumes nothing.
 use mathlib.Core.Path.{◌∙◌}
 use Rattle.notes.proofs.Messages.{header-stored}
-use borrow.Author.Rules.{rules}
 use Rattle.notes.proofs.message.raw.put_header.Goals as goal
 
 pub returns : goal.returns

@@ -1,14 +1,10 @@
 -- `message::raw::put_message` meets its contract: a header, and the records behind it.
 -- Assumes nothing.
-use mathlib.Core.Path.{◌∙◌}
-use Rattle.notes.proofs.Lists.{put_rest}
 use Rattle.notes.proofs.Messages.{message-stored}
-use borrow.Author.Rules.{rules}
 use Rattle.notes.proofs.message.raw.put_message.Goals as goal
 
 pub returns : goal.returns
 returns c =
     let a = c.args in
-    put_rest 8 c.put_header.last.0 a.records.now c.put_bytes.last.1.0 (search rules) c.put_bytes.ensures.1
-    ∙ rw c.put_header.ensures
+    rw (c.put_bytes.ensures, c.put_header.ensures)
     (message-stored a.n a.sender a.records.now a.out.now (λ i. (c.type_inv.records i).fits) c.requires.1 c.requires.0)

@@ -1,10 +1,8 @@
 -- `number::raw::counts_at` meets its contract. The invariant: the numbers passed are those in the bytes, the others as they were.
 -- Assumes nothing.
-use Prim.Native.Nat.{◌≤◌, ◌-◌}
-use mathlib.Core.Path.{◌≡◌, refl, sym, ◌∙◌}
-use mathlib.Core.List.{◌++◌}
+use mathlib.Core.Path.{sym, ◌∙◌}
 use native.Mathlib.Omega.{arith}
-use lib.ListN.{length, take, drop}
+use lib.ListN.{length, drop}
 use Rattle.notes.specs.Vector.{counts_in}
 use Rattle.notes.proofs.Lists.{copied_more, copied_all}
 use Rattle.notes.proofs.Vectors.{length-counts_in, count-in}

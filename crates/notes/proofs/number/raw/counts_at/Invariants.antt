@@ -1,14 +1,10 @@
 -- `number::raw::counts_at` meets its contract. The invariant: the numbers passed are those in the bytes, the others as they were.
 -- Assumes nothing.
 use Prim.Native.Nat.{◌≤◌, ◌-◌}
-use mathlib.Core.Path.{◌≡◌, refl, sym, ◌∙◌}
+use mathlib.Core.Path.{◌≡◌}
 use mathlib.Core.List.{◌++◌}
-use native.Mathlib.Omega.{arith}
 use lib.ListN.{length, take, drop}
 use Rattle.notes.specs.Vector.{counts_in}
-use Rattle.notes.proofs.Lists.{copied_more, copied_all}
-use Rattle.notes.proofs.Vectors.{length-counts_in, count-in}
-use borrow.Author.Rules.{rules}
 use Rattle.notes.proofs.number.raw.counts_at.Given as goal
 
 abbrev pub invariant-loop-i : goal.invariant-loop-i

@@ -1,11 +1,7 @@
 -- `number::raw::put_counts` meets its contract. The invariant: the bytes of the numbers passed are stored.
 -- Assumes nothing.
-use Prim.Native.Nat.{◌≤◌, ◌-◌}
-use mathlib.Core.Path.{◌≡◌, refl, ◌∙◌}
+use mathlib.Core.Path.{refl, ◌∙◌}
 use mathlib.Core.List.{flat_map}
-use lib.ListN.{length, take}
-use lib.Seq.{sets, take_all}
-use Rattle.notes.specs.Vector.{count_bytes}
 use Rattle.notes.proofs.Vectors.{counts-stored}
 use borrow.Author.Rules.{rules}
 use Rattle.notes.proofs.number.raw.put_counts.Goals as goal
@@ -21,5 +17,5 @@ loop-i-preserved c =
     let a = c.args in (
       search rules,
       c.put_u16.ensures ∙ rw l.invariant.1 (counts-stored a.xs.now l.i (search rules) a.out.now a.at),
-      c.put_u16.kept.0 ∙ l.invariant.2,
+      search rules,
     )

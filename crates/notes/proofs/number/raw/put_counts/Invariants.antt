@@ -1,13 +1,10 @@
 -- `number::raw::put_counts` meets its contract. The invariant: the bytes of the numbers passed are stored.
 -- Assumes nothing.
 use Prim.Native.Nat.{◌≤◌, ◌-◌}
-use mathlib.Core.Path.{◌≡◌, refl, ◌∙◌}
-use mathlib.Core.List.{flat_map}
+use mathlib.Core.Path.{◌≡◌}
 use lib.ListN.{length, take}
-use lib.Seq.{sets, take_all}
+use lib.Seq.{sets}
 use Rattle.notes.specs.Vector.{count_bytes}
-use Rattle.notes.proofs.Vectors.{counts-stored}
-use borrow.Author.Rules.{rules}
 use Rattle.notes.proofs.number.raw.put_counts.Given as goal
 
 abbrev pub invariant-loop-i : goal.invariant-loop-i

@@ -1,10 +1,7 @@
 -- `number::raw::put_u16` meets its contract: two stores.
 -- Assumes nothing.
 use native.Mathlib.Numerals.{add-one}
-use native.Mathlib.Omega.{arith}
-use lib.ListN.{length-set}
 use Rattle.notes.specs.Bytes.{to_bytes}
-use borrow.Author.Rules.{rules}
 use Rattle.notes.proofs.number.raw.put_u16.Goals as goal
 
 pub returns : goal.returns

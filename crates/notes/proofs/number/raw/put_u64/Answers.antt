@@ -2,7 +2,6 @@
 -- Assumes nothing.
 use mathlib.Core.Path.{◌∙◌}
 use Rattle.notes.proofs.Numbers.{split-stored}
-use borrow.Author.Rules.{rules}
 use Rattle.notes.proofs.number.raw.put_u64.Goals as goal
 
 pub returns : goal.returns

@@ -2,7 +2,6 @@
 -- Assumes nothing.
 use native.Mathlib.Omega.{arith}
 use Rattle.notes.proofs.Numbers.{from-split}
-use borrow.Author.Rules.{rules}
 use Rattle.notes.proofs.number.raw.u32_at.Goals as goal
 
 pub returns : goal.returns

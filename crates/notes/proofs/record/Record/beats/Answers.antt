@@ -4,7 +4,6 @@ use mathlib.Core.Path.{◌≡◌, sym, ◌∙◌}
 use Rattle.notes.specs.Vector.{sum}
 use Rattle.notes.specs.Record.{beats}
 use Rattle.notes.proofs.Lists.{above-differs, above_same, above-last}
-use borrow.Author.Rules.{rules}
 use Rattle.notes.proofs.record.Record.beats.Goals as goal
 
 pub returns-then-a-b : goal.returns-then-a-b

@@ -1,7 +1,6 @@
 -- `Record::well_formed` meets its contract: each test decides where it stops.
 -- Assumes nothing.
 use mathlib.Core.Path.{◌≡◌, sym, ap, ◌∙◌}
-use borrow.Author.Tests.{not-true, not-false}
 use lib.Dec.{leb}
 use lib.ListN.{length}
 use Rattle.notes.specs.Index.{servers}

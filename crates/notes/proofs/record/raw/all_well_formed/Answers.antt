@@ -1,15 +1,10 @@
 -- `record::raw::all_well_formed` meets its contract. The invariant: the records passed are well formed.
 -- Assumes nothing.
-use Prim.Native.Nat.{◌≤◌, ◌-◌, ◌/◌}
-use mathlib.Core.Bool.{true}
-use mathlib.Core.Path.{◌≡◌, sym, ◌∙◌}
+use Prim.Native.Nat.{◌/◌}
+use mathlib.Core.Path.{sym, ◌∙◌}
 use native.Mathlib.Nat.{add-sub_cancel_left}
-use native.Mathlib.Omega.{arith}
-use borrow.Author.Tests.{not-true, not-false}
-use lib.ListN.{length, take, length-take, length-drop}
-use Rattle.notes.specs.Lists.{every}
+use lib.ListN.{length}
 use Rattle.notes.specs.Record.{well_formed}
-use Rattle.notes.specs.Message.{records_in}
 use Rattle.notes.proofs.Records.{all_none, all_more, all-fails, all-passed}
 use borrow.Author.Rules.{rules}
 use Rattle.notes.proofs.record.raw.all_well_formed.Goals as goal
@@ -23,14 +18,14 @@ pub returns-then-not-well_formed : goal.returns-then-not-well_formed
 returns-then-not-well_formed c =
     let a = c.args in
     let l = c.loop-k in
-    let e = rw add-sub_cancel_left at c.well-formed.ensures in
+    let e = rw add-sub_cancel_left at c.well_formed-in-loop-k.ensures in
     sym (all-fails (well_formed a.n) (length a.b.now / 28) a.b.now l.k (search rules) (sym e ∙ c.if-not-well_formed.true))
 
 pub loop-k-preserved : goal.loop-k-preserved
 loop-k-preserved c =
     let a = c.args in
     let l = c.loop-k in
-    let e = rw add-sub_cancel_left at c.well-formed.ensures in (
+    let e = rw add-sub_cancel_left at c.well_formed-in-loop-k.ensures in (
       search rules,
       all_more (well_formed a.n) (length a.b.now / 28) a.b.now l.k (search rules) l.invariant.1 (sym e ∙ c.if-not-well_formed.false),
     )

@@ -1,17 +1,12 @@
 -- `record::raw::all_well_formed` meets its contract. The invariant: the records passed are well formed.
 -- Assumes nothing.
-use Prim.Native.Nat.{◌≤◌, ◌-◌, ◌/◌}
+use Prim.Native.Nat.{◌≤◌, ◌-◌}
 use mathlib.Core.Bool.{true}
-use mathlib.Core.Path.{◌≡◌, sym, ◌∙◌}
-use native.Mathlib.Nat.{add-sub_cancel_left}
-use native.Mathlib.Omega.{arith}
-use borrow.Author.Tests.{not-true, not-false}
-use lib.ListN.{length, take, length-take, length-drop}
+use mathlib.Core.Path.{◌≡◌}
+use lib.ListN.{take}
 use Rattle.notes.specs.Lists.{every}
 use Rattle.notes.specs.Record.{well_formed}
 use Rattle.notes.specs.Message.{records_in}
-use Rattle.notes.proofs.Records.{all_none, all_more, all-fails, all-passed}
-use borrow.Author.Rules.{rules}
 use Rattle.notes.proofs.record.raw.all_well_formed.Given as goal
 
 abbrev pub invariant-loop-k : goal.invariant-loop-k

@@ -3,7 +3,6 @@
 use mathlib.Core.Path.{sym}
 use Rattle.notes.specs.Record.{decode}
 use Rattle.notes.proofs.Numbers.{from_one}
-use borrow.Author.Rules.{rules}
 use Rattle.notes.proofs.record.raw.decoded.Goals as goal
 
 pub returns : goal.returns

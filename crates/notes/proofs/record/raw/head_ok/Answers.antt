@@ -5,7 +5,6 @@ use mathlib.Core.Path.{sym, ap, subst, ◌∙◌}
 use lib.Dec.{eqb}
 use Rattle.notes.proofs.Numbers.{AllBelow}
 use Rattle.notes.proofs.Records.{origin-out, cell_out, phone-decides}
-use borrow.Author.Rules.{rules}
 use Rattle.notes.proofs.record.raw.head_ok.Goals as goal
 
 pub returns-then-n-b : goal.returns-then-n-b

@@ -1,7 +1,6 @@
 -- `Session::after_read` meets its contract: R is raised to the maximum.
 -- Assumes nothing.
 use Rattle.notes.specs.Session.{after_read}
-use borrow.Author.Rules.{rules}
 use Rattle.notes.proofs.session.Session.after_read.Goals as goal
 
 pub returns : goal.returns

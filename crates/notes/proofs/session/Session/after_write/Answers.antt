@@ -1,7 +1,6 @@
 -- `Session::after_write` meets its contract: the second vector is raised to the maximum.
 -- Assumes nothing.
 use Rattle.notes.specs.Session.{after_write}
-use borrow.Author.Rules.{rules}
 use Rattle.notes.proofs.session.Session.after_write.Goals as goal
 
 pub returns : goal.returns

@@ -17,4 +17,4 @@ returns-in-Writes c =
 pub returns-in-Both : goal.returns-in-Both
 unfolding chosen_of
 returns-in-Both c =
-    rw (c.maximum.ensures, c.enum_told-in-Both-1.given.1)
+    rw (c.maximum.ensures, c.in-Both.is)

@@ -1,13 +1,11 @@
 -- `Vector::is_behind` meets its contract. The invariant: the flag is the test over the positions passed.
 -- Assumes nothing.
 use Prim.Native.Nat.{◌≤◌, ◌-◌}
-use mathlib.Core.Path.{◌≡◌, sym}
+use mathlib.Core.Path.{◌≡◌}
 use mathlib.Core.List.{zip_with}
 use lib.Dec.{ltb}
 use lib.ListN.{take}
 use Rattle.notes.specs.Lists.{any}
-use Rattle.notes.proofs.Vectors.{behind_more, behind-all}
-use borrow.Author.Rules.{rules}
 use Rattle.notes.proofs.vector.Vector.is_behind.Given as goal
 
 abbrev pub invariant-loop-i : goal.invariant-loop-i

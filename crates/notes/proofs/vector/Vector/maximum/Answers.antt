@@ -1,10 +1,8 @@
 -- `Vector::maximum` meets its contract. The invariant: the positions passed are the maximum's, the others this vector's.
 -- Assumes nothing.
-use Prim.Native.Nat.{◌≤◌, ◌-◌}
-use mathlib.Core.Path.{◌≡◌, refl, ap, ◌∙◌}
-use mathlib.Core.List.{◌++◌}
+use mathlib.Core.Path.{◌≡◌, ap, ◌∙◌}
 use native.Mathlib.Omega.{arith}
-use lib.ListN.{length, take, drop}
+use lib.ListN.{length}
 use Rattle.notes.specs.Vector.{vector, maximum as maximum_of}
 use Rattle.notes.proofs.Vectors.{maximum-more, length-maximum}
 use Rattle.notes.proofs.Lists.{copied_all}
@@ -16,7 +14,7 @@ loop-i-preserved c =
     let l = c.loop-i in
     let a = c.args in (
       search rules,
-      rw (l.invariant.1, c.greater.ensures) (maximum-more a.t1 a.t2 (search rules) (search rules) l.i (search rules)),
+      rw (l.invariant.1, c.greater.ensures) (maximum-more a.self a.other (search rules) (search rules) l.i (search rules)),
       search rules,
     )
 
@@ -24,6 +22,6 @@ pub returns : goal.returns
 returns c =
     let l = c.loop-i in
     let a = c.args in
-    let eight = length-maximum a.t1 a.t2 (search rules) (search rules) in
-    let own : length a.t1.counts ≡ 8 = search rules in
-    ap vector (l.invariant.1 ∙ copied_all (maximum_of a.t1 a.t2).counts a.t1.counts l.i (omega arith) (omega arith))
+    let eight = length-maximum a.self a.other (search rules) (search rules) in
+    let own : length a.self.counts ≡ 8 = search rules in
+    ap vector (l.invariant.1 ∙ copied_all (maximum_of a.self a.other).counts a.self.counts l.i (omega arith) (omega arith))

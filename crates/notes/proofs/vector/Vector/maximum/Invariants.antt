@@ -1,14 +1,10 @@
 -- `Vector::maximum` meets its contract. The invariant: the positions passed are the maximum's, the others this vector's.
 -- Assumes nothing.
 use Prim.Native.Nat.{◌≤◌, ◌-◌}
-use mathlib.Core.Path.{◌≡◌, refl, ap, ◌∙◌}
+use mathlib.Core.Path.{◌≡◌}
 use mathlib.Core.List.{◌++◌}
-use native.Mathlib.Omega.{arith}
 use lib.ListN.{length, take, drop}
-use Rattle.notes.specs.Vector.{vector, maximum as maximum_of}
-use Rattle.notes.proofs.Vectors.{maximum-more, length-maximum}
-use Rattle.notes.proofs.Lists.{copied_all}
-use borrow.Author.Rules.{rules}
+use Rattle.notes.specs.Vector.{maximum as maximum_of}
 use Rattle.notes.proofs.vector.Vector.maximum.Given as goal
 
 abbrev pub invariant-loop-i : goal.invariant-loop-i

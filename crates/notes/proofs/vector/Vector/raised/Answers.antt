@@ -17,5 +17,5 @@ pub returns-else-i-lt-LEN : goal.returns-else-i-lt-LEN
 unfolding raised
 returns-else-i-lt-LEN c =
     let a = c.args in
-    let l : length a.t1.counts ≡ 8 = search rules in
-    ap vector (sym (set_out a.t1.counts a.s.0 _ (omega arith)))
+    let l : length a.self.counts ≡ 8 = search rules in
+    ap vector (sym (set_out a.self.counts a.s.0 _ (omega arith)))

@@ -1,11 +1,6 @@
 -- `Vector::sum` meets its contract. The invariant: the total is the sum of the positions passed, each below 65,536.
 -- Assumes nothing.
-use Prim.Native.Nat.{◌≤◌, ◌-◌, ◌+◌, ◌*◌}
-use mathlib.Core.Path.{◌≡◌, refl}
-use mathlib.Core.List.{foldr}
-use native.Mathlib.Omega.{arith}
-use lib.ListN.{take}
-use Rattle.notes.proofs.Vectors.{sum_more, sum-all}
+use Rattle.notes.proofs.Vectors.{sum-all}
 use borrow.Author.Rules.{rules}
 use Rattle.notes.proofs.vector.Vector.sum.Goals as goal
 
@@ -13,4 +8,4 @@ pub returns : goal.returns
 returns c =
     let l = c.loop-i in
     let a = c.args in
-    rw l.invariant.1 (sum-all a.t1 (search rules) l.i c.loop-i-test.false)
+    rw l.invariant.1 (sum-all a.self (search rules) l.i c.loop-i-test.false)

@@ -1,12 +1,9 @@
 -- `Vector::sum` meets its contract. The invariant: the total is the sum of the positions passed, each below 65,536.
 -- Assumes nothing.
 use Prim.Native.Nat.{◌≤◌, ◌-◌, ◌+◌, ◌*◌}
-use mathlib.Core.Path.{◌≡◌, refl}
+use mathlib.Core.Path.{◌≡◌}
 use mathlib.Core.List.{foldr}
-use native.Mathlib.Omega.{arith}
 use lib.ListN.{take}
-use Rattle.notes.proofs.Vectors.{sum_more, sum-all}
-use borrow.Author.Rules.{rules}
 use Rattle.notes.proofs.vector.Vector.sum.Given as goal
 
 abbrev pub invariant-loop-i : goal.invariant-loop-i

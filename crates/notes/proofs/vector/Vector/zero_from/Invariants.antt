@@ -1,12 +1,10 @@
 -- `Vector::zero_from` meets its contract. The invariant: the flag is the test over the positions passed from n on.
 -- Assumes nothing.
 use Prim.Native.Nat.{◌≤◌, ◌-◌}
-use mathlib.Core.Path.{◌≡◌, sym}
+use mathlib.Core.Path.{◌≡◌}
 use lib.Dec.{eqb}
 use lib.ListN.{take, drop}
 use Rattle.notes.specs.Lists.{every}
-use Rattle.notes.proofs.Vectors.{zero-none, zero_more, zero-all}
-use borrow.Author.Rules.{rules}
 use Rattle.notes.proofs.vector.Vector.zero_from.Given as goal
 
 abbrev pub invariant-loop-i : goal.invariant-loop-i

@@ -2,7 +2,6 @@
 -- Assumes nothing.
 use mathlib.Core.Path.{ap}
 use Rattle.notes.specs.Vector.{vector, vector_from}
-use borrow.Author.Rules.{rules}
 use Rattle.notes.proofs.vector.raw.vector_at.Goals as goal
 
 pub returns : goal.returns
