@@ -11,7 +11,7 @@ use Rattle.notes.specs.declared.record.Record.{Record}
 use Rattle.rules.specs.Writes.{server}
 use Rattle.rules.specs.Memory.{Memory, memory, no_reads}
 use Rattle.rules.specs.Image.{history_size, header_of}
-use Rattle.rules.proofs.Script.{turn, vec, note, write_with, write5, take_bytes, value, done, refusal, leaves, runs}
+use Rattle.rules.proofs.Script.{turn, vec, note, write_with, write5, take_bytes, done, refusal, leaves, runs}
 use Rattle.rules.proofs.Computed.{computed}
 
 -- writes numbered from k on

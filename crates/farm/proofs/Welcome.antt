@@ -15,7 +15,7 @@ use Rattle.notes.specs.declared.index.ServerId.{ServerId}
 use Rattle.notes.specs.declared.vector.Vector.{Vector}
 use Rattle.rules.specs.declared.event.What.TheVariants as what
 use Rattle.rules.specs.Memory.{Memory}
-use Rattle.rules.specs.Answer.{Effect, unless}
+use Rattle.rules.specs.Answer.{Effect}
 use Rattle.rules.specs.Step.{taken, taken_from, suitable, update_refusals, update, step}
 use Rattle.laws.proofs.Sentences.{six-update}
 use Rattle.farm.specs.Farm.{Farm, step_at}

@@ -1,6 +1,6 @@
 -- A step from a sound state leaves a sound state, up or down, for every event.
 -- Assumes nothing.
-use Prim.Native.Nat.{ℕ, ◌+◌, ◌-◌, ◌*◌, ◌/◌}
+use Prim.Native.Nat.{ℕ, ◌-◌, ◌*◌, ◌/◌}
 use mathlib.Core.Bool.{Bool, true, false, cond}
 use mathlib.Core.List.{List, [], ◌∷◌, ◌++◌, append-nil, append_assoc}
 use mathlib.Core.Path.{◌≡◌, refl, ap, sym, ◌∙◌, subst}
@@ -44,7 +44,6 @@ use Rattle.laws.proofs.Stores.{fresh-shows, shows-server}
 use Rattle.laws.proofs.Sound.{Facts, took}
 use Rattle.laws.proofs.Open.{Up, opened, closed, closed-down}
 use Rattle.laws.proofs.Passed.{Granted, Brought, Plain, unless-keeps, plain, granted, granted-cut, brought-known}
-use Rattle.laws.proofs.Newest.{formed}
 use Rattle.laws.proofs.Reading.{noted-is, cp, read_left, read-cut}
 use Rattle.laws.proofs.Writing.{write-left, write-cut-so}
 

@@ -1,8 +1,7 @@
 -- Any two outcomes that meet a call's statement are equal.
 -- Assumes nothing.
 use Prim.Native.Nat.{ℕ}
-use mathlib.Core.Bool.{Bool, true, false, cond}
-use mathlib.Core.List.{List, [], ◌∷◌, ◌++◌}
+use mathlib.Core.List.{List}
 use mathlib.Core.Path.{◌≡◌, refl, ap, sym, ◌∙◌}
 use native.Mathlib.Omega.{arith}
 use lib.ListN.{length}
@@ -24,7 +23,7 @@ use Rattle.rules.specs.declared.state.State.{State}
 use Rattle.rules.specs.Memory.{Memory, with_state, down_of, writes}
 use Rattle.rules.specs.Sound.{recover}
 use Rattle.rules.specs.Answer.{Effect, effect_of, verdict_reply, status_reply, finished, is_down}
-use Rattle.rules.specs.Request.{noted, cleared, due, ready, performed, served, cut_after, written, new_record, request_refusals, cut_refusals, request, request_cut}
+use Rattle.rules.specs.Request.{noted, due, ready, performed, served, cut_after, written, new_record, request_refusals, cut_refusals, request, request_cut}
 use Rattle.rules.specs.Step.{taken_from, updated, update_refusals, update, plain_refusals, cut, recovery, happens, step}
 use Rattle.rules.specs.Calls.{judge, fresh, no_server, start_refusal, start, status, found, look_up, message_filled, message}
 use Rattle.laws.proofs.Writes.{length-tally}

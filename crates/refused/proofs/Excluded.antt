@@ -1,7 +1,7 @@
 -- Demand 3 and the sentence on own writes exclude wrong servers, each by the clause that it breaks in a run of its own; and the right server breaks a sentence that claims too much.
 -- Assumes nothing.
 use Prim.Native.Nat.{ℕ, ◌≤◌, ◌<◌}
-use mathlib.Core.Bool.{Bool, true, false, not, ◌&&◌, true≢false}
+use mathlib.Core.Bool.{Bool, true, not, ◌&&◌, true≢false}
 use mathlib.Core.List.Memᴰ
 use mathlib.Core.List.{List, [], ◌∷◌, ◌++◌, flat_map}
 use mathlib.Core.Path.{◌≡◌, refl, ap, sym, ◌∙◌}

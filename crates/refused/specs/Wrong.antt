@@ -1,7 +1,7 @@
 -- Wrong servers: each is the step but for one thing. Examples and scripts refuse them (proofs/Refused), and demand 3 excludes those that
 -- break it (proofs/Excluded).
 -- Assumes nothing.
-use Rattle.std.specs.Prelude.{ℕ, ◌*◌, ◌+◌, ◌-◌, Bool, cond, true, List, [], ◌∷◌, ◌++◌, eqb, ltb, length, take, drop}
+use Rattle.std.specs.Prelude.{ℕ, ◌*◌, ◌-◌, Bool, cond, true, List, [], ◌∷◌, ◌++◌, eqb, ltb, length, take, drop}
 use Rattle.std.proofs.Math.Option.{Option, none, some}
 use Rattle.notes.specs.Lists.{above}
 use Rattle.notes.specs.Reply.{Reply}

@@ -8,7 +8,6 @@ use Rattle.notes.specs.Index.{server_ok}
 use Rattle.notes.specs.Vector.{raised, sum, behind, zero_from, vector_from, vector_bytes}
 use Rattle.notes.specs.Record.{decode, encode, in_range, stamp_ok, well_formed, beats, records, record_bytes}
 use Rattle.notes.specs.Message as message
-use Rattle.rules.specs.declared.event.What.TheVariants as what
 use Rattle.rules.specs.Writes.{keep, counting, server_ids, writes_of, tally, in_turn, same_records, best, winner}
 use Rattle.rules.specs.Memory.{phone_ids, in_set, with_phone, members}
 use Rattle.rules.specs.Image.{header_of, header_ok, checkpoint, log, fresh_image, stored, byte_stores, write_plan, checkpoint_plan}

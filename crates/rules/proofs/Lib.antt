@@ -5,3 +5,4 @@ pub mod Examples
 pub mod Further
 pub mod Layouts
 pub mod Looked
+pub mod Unique
