@@ -1,7 +1,6 @@
 -- `quiet::writes` is safe. The invariant: no more writes than were asked for.
 -- Assumes nothing.
 use Prim.Native.Nat.{◌≤◌, ◌-◌}
-use borrow.Author.Rules.{rules}
 use Rattle.examples.proofs.quiet.writes.Given as goal
 
 abbrev pub invariant-loop-i : goal.invariant-loop-i

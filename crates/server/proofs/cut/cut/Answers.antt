@@ -6,7 +6,6 @@ use Rattle.rules.specs.Memory.{Memory, memory}
 use Rattle.rules.specs.Answer.{verdict_refusal, is_down}
 use Rattle.rules.specs.Step.{plain_refusals, cut}
 use Rattle.server.proofs.Plain.{plain-told}
-use borrow.Author.Rules.{rules}
 use Rattle.server.proofs.cut.cut.Goals as goal
 
 pub returns-in-Refused : goal.returns-in-Refused

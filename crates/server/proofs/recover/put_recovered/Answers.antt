@@ -6,7 +6,6 @@ use native.Mathlib.Omega.{arith}
 use Rattle.notes.specs.Record.{record_size}
 use Rattle.rules.specs.Image.{history_size, checkpoint_at, log_place}
 use Rattle.server.proofs.Recovering.{put-parts}
-use borrow.Author.Rules.{rules}
 use Rattle.server.proofs.recover.put_recovered.Goals as goal
 
 pub returns : goal.returns

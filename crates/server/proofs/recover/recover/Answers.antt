@@ -15,7 +15,6 @@ use Rattle.laws.proofs.Writes.{at-tally}
 use Rattle.notes.proofs.Lists.{rest}
 use Rattle.memory.proofs.Tested.{checkpoint-walks}
 use Rattle.server.proofs.Recovering.{suited, suited-counts, suited-fits, suited-few, recover-made}
-use borrow.Author.Rules.{rules}
 use Rattle.server.proofs.recover.recover.Goals as goal
 
 pub walk-found-requires : goal.walk-found-requires

@@ -10,7 +10,6 @@ use Rattle.rules.specs.Step.{plain_refusals, recovery}
 use Rattle.laws.proofs.Passed.{head-known, head-right}
 use Rattle.memory.proofs.Tested.{down-suits}
 use Rattle.server.proofs.Plain.{plain-told}
-use borrow.Author.Rules.{rules}
 use Rattle.server.proofs.recovery.recovery.Goals as goal
 
 pub returns-in-Refused : goal.returns-in-Refused

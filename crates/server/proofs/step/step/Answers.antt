@@ -5,7 +5,6 @@ use Rattle.rules.specs.declared.event.What.{What}
 use Rattle.rules.specs.Answer.{Effect}
 use Rattle.rules.specs.Memory.{memory}
 use Rattle.rules.specs.Step.{happens, step}
-use borrow.Author.Rules.{rules}
 use Rattle.server.proofs.step.step.Goals as goal
 
 pub returns-in-Request : goal.returns-in-Request

@@ -6,7 +6,6 @@ use mathlib.Core.Path.{◌≡◌}
 use lib.ListN.{get_or}
 use Rattle.notes.specs.Record.{decode}
 use Rattle.notes.proofs.Numbers.{from_one}
-use borrow.Author.Rules.{rules}
 use Rattle.server.proofs.take.after.Goals as goal
 
 pub origin-is : (w : List ℕ) → (decode w).origin ≡ record { 0 = get_or w 0 0 }

@@ -1,17 +1,15 @@
 -- `take::append` meets its contract. The invariant: storing the new writes of those left gives the whole.
 -- Assumes nothing.
-use Prim.Native.Nat.{ℕ, ◌+◌, ◌*◌, ◌≤◌, ◌<◌, ◌-◌}
-use mathlib.Core.Path.{◌≡◌, refl}
+use Prim.Native.Nat.{ℕ, ◌+◌, ◌*◌, ◌≤◌, ◌<◌}
+use mathlib.Core.Path.{◌≡◌}
 use native.Mathlib.Nat.{add-sub_cancel_left}
 use native.Mathlib.Omega.{arith}
-use lib.ListN.{length, get_or, take, drop, length-take, length-drop}
-use lib.Seq.{sets, length-sets}
-use Rattle.notes.specs.Index.{servers}
-use Rattle.notes.specs.Record.{record_size, number, records, record_bytes}
-use Rattle.notes.proofs.Lists.{put_rest}
-use Rattle.server.specs.Forms.{Listed, ahead}
+use lib.ListN.{length, get_or, length-take, length-drop}
+use lib.Seq.{length-sets}
+use Rattle.notes.specs.Record.{record_size, number}
+use Rattle.server.specs.Forms.{Listed}
 use Rattle.memory.proofs.Walks.{this}
-use Rattle.server.proofs.Taking.{listed-origin, listed-part, Copied, copied_all, copied-skips, copied-room, copied_more}
+use Rattle.server.proofs.Taking.{listed-origin, listed-part, copied_all, copied-skips, copied-room, copied_more}
 use borrow.Author.Rules.{rules}
 use Rattle.server.proofs.take.append.Goals as goal
 

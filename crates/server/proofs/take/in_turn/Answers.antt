@@ -1,16 +1,14 @@
 -- `take::in_turn` meets its contract. The invariant: what the writes give is what those left give behind the new ones.
 -- Assumes nothing.
-use Prim.Native.Nat.{ℕ, ◌*◌, ◌≤◌, ◌<◌, ◌-◌}
+use Prim.Native.Nat.{ℕ, ◌*◌, ◌<◌}
 use mathlib.Core.Path.{◌≡◌, sym, ◌∙◌}
 use native.Mathlib.Nat.{add-sub_cancel_left}
 use native.Mathlib.Omega.{arith}
 use lib.ListN.{get_or}
 use Rattle.notes.specs.Index.{servers}
-use Rattle.notes.specs.Record.{record_size, number, records}
-use Rattle.rules.specs.Step.{taken}
-use Rattle.server.specs.Forms.{seen}
+use Rattle.notes.specs.Record.{record_size, number}
 use Rattle.memory.proofs.Walks.{this}
-use Rattle.server.proofs.Taking.{seen_behind, left, listed-origin, listed-part, none-taken, all-taken, skips-at, own_at, gap_at, appends-at}
+use Rattle.server.proofs.Taking.{listed-origin, listed-part, all-taken, skips-at, own_at, gap_at, appends-at}
 use borrow.Author.Rules.{rules}
 use Rattle.server.proofs.take.in_turn.Goals as goal
 

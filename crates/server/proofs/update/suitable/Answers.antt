@@ -4,7 +4,6 @@ use mathlib.Core.List.{[]}
 use mathlib.Core.Path.{refl, sym}
 use Rattle.rules.specs.Memory.{memory}
 use Rattle.server.proofs.Updating.{unsuited-refused, unsuited-n, suited-decides}
-use borrow.Author.Rules.{rules}
 use Rattle.server.proofs.update.suitable.Goals as goal
 
 pub returns-in_default : goal.returns-in_default

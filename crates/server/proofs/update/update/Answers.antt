@@ -16,7 +16,6 @@ use Rattle.laws.proofs.Passed.{Arrived, arrived}
 use Rattle.server.specs.Forms.{origin_ok, Seen, takes_of, seen}
 use Rattle.server.proofs.Taking.{taken-ahead}
 use Rattle.server.proofs.Updating.{brought-at, brought-listed, arrived-few, arrived-long, arrived-origins, update-refused, update-stopped, update-full, update-done, update_same}
-use borrow.Author.Rules.{rules}
 use Rattle.server.proofs.update.update.Goals as goal
 
 pub returns-in-Refused : goal.returns-in-Refused

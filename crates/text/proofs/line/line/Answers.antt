@@ -1,14 +1,13 @@
 -- `line::line` meets its contract: the name, the numbers behind it, and the line's end.
 -- Assumes nothing.
-use Prim.Native.Nat.{◌*◌, ◌<◌, ◌≤◌}
-use mathlib.Core.Path.{◌≡◌, sym, ◌∙◌}
+use Prim.Native.Nat.{◌*◌, ◌≤◌}
+use mathlib.Core.Path.{sym, ◌∙◌}
 use native.Mathlib.Omega.{arith}
-use borrow.Author.Tests.{leb-true, leb-false, not-true, not-false}
+use borrow.Author.Tests.{leb-true, leb-false}
 use lib.ListN.{length}
 use Rattle.text.specs.Text.{named_room}
 use Rattle.text.proofs.Named.{numbers-room, line-short, line-done}
 use Rattle.text.proofs.Texts.{then, within}
-use borrow.Author.Rules.{rules}
 use Rattle.text.proofs.line.line.Goals as goal
 
 pub returns-then-not-has_room : goal.returns-then-not-has_room

@@ -1,11 +1,8 @@
 -- `listing::list` meets its contract: the answer of the check picks the text.
 -- Assumes nothing.
-use mathlib.Core.Path.{sym, ap, ◌∙◌}
-use Rattle.notes.specs.Message.{checked_reply}
 use Rattle.notes.proofs.Answers.{update-right, refused-wrong}
 use Rattle.text.proofs.Texts.{same_text}
 use Rattle.text.proofs.Lines.{listed-wrong, list-short, list_done}
-use borrow.Author.Rules.{rules}
 use Rattle.text.proofs.listing.list.Goals as goal
 
 pub returns-then-out-lt-ROOM : goal.returns-then-out-lt-ROOM

@@ -1,13 +1,9 @@
 -- `listing::put_head` meets its contract: piece by piece.
 -- Assumes nothing.
-use Prim.Native.Nat.{◌≤◌}
-use mathlib.Core.Path.{◌≡◌, ◌∙◌}
 use native.Mathlib.Omega.{arith}
-use lib.ListN.{length}
 use Rattle.text.specs.Text.{head_line}
 use Rattle.text.proofs.Decimals.{length-decimal}
 use Rattle.text.proofs.Texts.{then, within}
-use borrow.Author.Rules.{rules}
 use Rattle.text.proofs.listing.put_head.Goals as goal
 
 pub returns : goal.returns

@@ -3,7 +3,6 @@
 use native.Mathlib.Omega.{arith}
 use Rattle.text.proofs.Decimals.{length-decimal}
 use Rattle.text.proofs.Texts.{then, same-room}
-use borrow.Author.Rules.{rules}
 use Rattle.text.proofs.listing.put_named.Goals as goal
 
 pub put_decimal-requires : goal.put_decimal-requires

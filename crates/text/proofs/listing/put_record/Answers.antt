@@ -1,8 +1,6 @@
 -- `listing::put_record` meets its contract: the line of the numbers up to T's n positions.
 -- Assumes nothing.
-use mathlib.Core.Path.{◌≡◌, ap}
-use native.Mathlib.Omega.{arith}
-use lib.ListN.{length, length-take}
+use mathlib.Core.Path.{ap}
 use Rattle.text.specs.Text.{line}
 use Rattle.text.proofs.Texts.{same_text}
 use Rattle.text.proofs.Lines.{numbers-taken}

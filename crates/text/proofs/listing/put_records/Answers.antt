@@ -1,17 +1,17 @@
 -- `listing::put_records` meets its contract. The invariant: the lines of the records passed stand in the output, and the
 -- next record stands at the place.
 -- Assumes nothing.
-use Prim.Native.Nat.{◌≤◌, ◌<◌, ◌-◌, ◌+◌, ◌*◌}
+use Prim.Native.Nat.{◌≤◌, ◌<◌}
 use mathlib.Core.Path.{◌≡◌, ap, refl, ◌∙◌}
 use mathlib.Core.List.{[], flat_map}
 use native.Mathlib.Omega.{arith}
-use lib.ListN.{length, get_or, take}
+use lib.ListN.{length, get_or}
 use Rattle.notes.specs.Index.{servers}
-use Rattle.notes.specs.Record.{decode, record_size}
-use Rattle.notes.specs.Message.{header_size, brought, read_at, place_after}
+use Rattle.notes.specs.Record.{decode}
+use Rattle.notes.specs.Message.{brought, read_at, place_after}
 use Rattle.notes.proofs.Reading.{read-record, place-record}
-use Rattle.text.specs.Text.{Stored, record_line, line_room}
-use Rattle.text.proofs.Texts.{then, same_text, same-room, no_text, each_more, each_all}
+use Rattle.text.specs.Text.{record_line}
+use Rattle.text.proofs.Texts.{then, same_text, no_text, each_more}
 use Rattle.text.proofs.Lines.{record-room}
 use borrow.Author.Rules.{rules}
 use Rattle.text.proofs.listing.put_records.Goals as goal

@@ -1,11 +1,9 @@
 -- `listing::with_stamp` meets its contract. The invariant: behind the first six numbers stand the positions passed.
 -- Assumes nothing.
-use Prim.Native.Nat.{◌≤◌, ◌-◌, ◌+◌}
-use mathlib.Core.Path.{◌≡◌, sym, ◌∙◌}
-use mathlib.Core.List.{◌++◌}
+use mathlib.Core.Path.{◌≡◌}
 use native.Mathlib.Omega.{arith}
-use lib.ListN.{length, take, drop}
-use Rattle.text.proofs.Lines.{front-none, front-more, front-all}
+use lib.ListN.{length}
+use Rattle.text.proofs.Lines.{front-more}
 use borrow.Author.Rules.{rules}
 use Rattle.text.proofs.listing.with_stamp.Goals as goal
 

@@ -1,12 +1,11 @@
 -- `print::put_all_spaced` meets its contract. The invariant: the numbers passed stand in the output.
 -- Assumes nothing.
-use Prim.Native.Nat.{◌≤◌, ◌-◌, ◌+◌, ◌*◌}
 use mathlib.Core.List.{flat_map}
 use native.Mathlib.Omega.{arith}
-use lib.ListN.{length, get_or, take}
-use Rattle.text.specs.Text.{spaced, Stored}
+use lib.ListN.{get_or}
+use Rattle.text.specs.Text.{spaced}
 use Rattle.text.proofs.Decimals.{length-spaced}
-use Rattle.text.proofs.Texts.{then, same_text, same-room, no_text, each_more, each_all}
+use Rattle.text.proofs.Texts.{then, same_text, same-room, no_text, each_more}
 use borrow.Author.Rules.{rules}
 use Rattle.text.proofs.print.put_all_spaced.Goals as goal
 

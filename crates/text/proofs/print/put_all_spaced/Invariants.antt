@@ -2,12 +2,8 @@
 -- Assumes nothing.
 use Prim.Native.Nat.{◌≤◌, ◌-◌, ◌+◌, ◌*◌}
 use mathlib.Core.List.{flat_map}
-use native.Mathlib.Omega.{arith}
-use lib.ListN.{length, get_or, take}
+use lib.ListN.{length, take}
 use Rattle.text.specs.Text.{spaced, Stored}
-use Rattle.text.proofs.Decimals.{length-spaced}
-use Rattle.text.proofs.Texts.{then, same_text, same-room, no_text, each_more, each_all}
-use borrow.Author.Rules.{rules}
 use Rattle.text.proofs.print.put_all_spaced.Given as goal
 
 abbrev pub invariant-loop-i : goal.invariant-loop-i
