@@ -4,7 +4,7 @@
 # says why), and their theorems are called raw-NAME-one.
 cd "$(dirname "$0")/.." || exit 1
 
-find crates -path '*/src/*' -name '*.rt' ! -name main.rt | sort | xargs awk '
+find crates -path 'crates/*/out' -prune -o -path '*/src/*' -name '*.rt' ! -name main.rt -print | sort | xargs awk '
     # The names of the theorems of a crate, read once.
     function theorems(crate,    path, line) {
         if (crate in known) return known[crate]

@@ -7,7 +7,7 @@ trap 'rm -f "$names"' EXIT
 
 # A definition, theorem, field or constructor in a file of this name.
 defined() {
-    find crates \( -path '*/specs/*' -o -path '*/proofs/*' \) -name "$1.antt" \
+    find crates -path 'crates/*/out' -prune -o \( -path '*/specs/*' -o -path '*/proofs/*' \) -name "$1.antt" \
         -exec grep -lE "^ *(abbrev |unfoldable )?(pub )?(record |data )?$2( |\$)" {} + | grep -q .
 }
 
@@ -18,8 +18,8 @@ declared() {
 
 # A definition, theorem, field or constructor of any file; a function, type or variant; an exported function; a crate, a file, a tool.
 named() {
-    grep -rqE "^ *(abbrev |unfoldable )?(pub )?(record |data )?$1( |\$)" --include='*.antt' crates || declared "$1" ||
-        grep -rqE "^ *(pub )?$1[(,]" --include='*.rt' crates || grep -qwF -- "$1" include/ssaldorip.h ||
+    grep -rqE "^ *(abbrev |unfoldable )?(pub )?(record |data )?$1( |\$)" --include='*.antt' --exclude-dir=out crates || declared "$1" ||
+        grep -rqE "^ *(pub )?$1[(,]" --include='*.rt' --exclude-dir=out crates || grep -qwF -- "$1" include/ssaldorip.h ||
         find crates docs tests rust include -name "$1*" | grep -q . || command -v "$1" >/dev/null
 }
 

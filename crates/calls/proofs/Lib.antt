@@ -3,3 +3,4 @@ pub mod Judging
 pub mod LookUp
 pub mod OwnMessage
 pub mod Starting
+pub mod Unique

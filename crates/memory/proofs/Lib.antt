@@ -9,3 +9,4 @@ pub mod Header
 pub mod Tested
 pub mod Zeros
 pub mod Heads
+pub mod Unique

@@ -3,7 +3,7 @@
 use Prim.Native.Nat.{ℕ, ◌+◌, ◌-◌, ◌*◌, ◌≤◌, ◌<◌}
 use mathlib.Core.Bool.{Bool, true, false, ◌&&◌, cond, and-false}
 use mathlib.Core.List.{List, []}
-use mathlib.Core.Path.{◌≡◌, ap, sym, ◌∙◌}
+use mathlib.Core.Path.{◌≡◌, refl, ap, sym, ◌∙◌}
 use native.Mathlib.Omega.{arith}
 use borrow.Author.Tests.{lt-leb, le-leb, eq-eqb, ne_eqb}
 use lib.Dec.{leb}
@@ -259,6 +259,10 @@ module _ (n : ℕ) (own : ServerId) (image : List ℕ) where
             le-leb (added own c l) (length l) (omega arith),
             le-leb (length c + added own c l) history_most (omega arith),
           )
+
+  -- as the two counts show it
+  pub many_fails : history_most < checkpoint_count image + added own c l → false ≡ log_test n own c l
+  many_fails h = sym (log-many (added own c l) refl h)
 
   -- ---- the whole of it
   pub suits-not : header_ok n own image ≡ false → suits n own image ≡ false

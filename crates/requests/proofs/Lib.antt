@@ -4,3 +4,4 @@ pub mod Storing
 pub mod Written
 pub mod Served
 pub mod Winners
+pub mod Unique

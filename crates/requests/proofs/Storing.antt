@@ -58,6 +58,15 @@ module _ (i b : List ℕ) (logged k : ℕ) (len : length b ≡ record_size) wher
   unfolding write_bytes_plan stored
   write-whole h = sym (with_all i b (log_place logged) k (count log_field (logged + 1)) [] (omega arith))
 
+-- as an image that the bytes have been stored to shows it
+pub stored_cut :
+    (i b j : List ℕ) (logged k : ℕ)
+    → j ≡ sets i (log_place logged) (take k b)
+    → length b ≡ record_size
+    → k ≤ record_size
+    → j ≡ stored i (take k (write_bytes_plan b logged))
+stored_cut i b j logged k e len h = e ∙ write-cut i b logged k len h
+
 -- a checkpoint of the history's records past those kept, as `&history[..]` has their bytes
 module _ (i h : List ℕ) (held kept k : ℕ) where
   abbrev new : List ℕ

@@ -35,6 +35,7 @@ fn put_count(image: &mut [u8], place: usize, count: usize)
 }
 
 // A record's bytes at the log's next place, then the log count.
+#[tactic(auto, using(crate::proofs::Storing::stored_cut))]
 pub(crate) fn store_write(image: &mut [u8], bytes: &[u8], logged: usize, k: usize)
     requires { (image_size ≤ length image.old) × (length bytes.now ≡ record_size) × (logged < log_most) }
     ensures { image.new ≡ stored image.old (take k (write_bytes_plan bytes.now logged)) }

@@ -6,3 +6,4 @@ pub mod Called
 pub mod Requested
 pub mod Reported
 pub mod Stateless
+pub mod Unique

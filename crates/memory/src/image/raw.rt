@@ -74,6 +74,7 @@ pub fn newest(image: &[u8], own: ServerId) -> u16
 }
 
 // The log goes on from the checkpoint's own writes, of which there are so many, or ends among them.
+#[tactic(auto, using(crate::proofs::Tested::many_fails))]
 fn log_ok(image: &[u8], n: u8, own: ServerId, kept: u16) -> bool
     requires { Limits n own image.now × (kept ≡ count_of own (checkpoint image.now)) }
     ensures { result ≡ log_test n own (checkpoint image.now) (log image.now) }

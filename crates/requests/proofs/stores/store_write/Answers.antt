@@ -4,16 +4,9 @@ use mathlib.Core.Path.{◌≡◌, ◌∙◌}
 use native.Mathlib.Omega.{arith}
 use lib.ListN.{length}
 use Rattle.notes.specs.Record.{record_size}
-use Rattle.requests.proofs.Storing.{write-cut, write-whole}
+use Rattle.requests.proofs.Storing.{write-whole}
 use borrow.Author.Rules.{rules}
 use Rattle.requests.proofs.stores.store_write.Goals as goal
-
-pub returns-then-k-le-LEN : goal.returns-then-k-le-LEN
-returns-then-k-le-LEN c =
-    let size : length c.args.bytes.now ≡ record_size = search rules in
-    let a = c.args in
-    c.store_bytes.ensures
-    ∙ write-cut a.image.now a.bytes.now a.logged a.k size (omega (arith, c.if-k-le-LEN.true))
 
 pub returns : goal.returns
 returns c =
@@ -21,4 +14,4 @@ returns c =
     let a = c.args in
     c.put_count.ensures
     ∙ rw c.store_bytes.ensures
-    (write-whole a.image.now a.bytes.now a.logged a.k size (omega (arith, c.if-k-le-LEN.false)))
+    (write-whole a.image.now a.bytes.now a.logged a.k size (omega arith))

@@ -12,7 +12,7 @@ use Rattle.rules.specs.Writes.{count_of}
 use Rattle.memory.specs.Forms.{Limits, added, own_run}
 use Rattle.memory.specs.declared.image.Image.{Image}
 use Rattle.notes.proofs.Lists.{rest}
-use Rattle.memory.proofs.Tested.{log-long, log-many, log-unrun, log-decides, kept-few}
+use Rattle.memory.proofs.Tested.{log-long, log-unrun, log-decides, kept-few}
 use borrow.Author.Rules.{rules}
 use Rattle.memory.proofs.image.raw.log_ok.Goals as goal
 
@@ -23,14 +23,6 @@ returns-then-counts-added c =
     let lacked : added c.args.own (checkpoint c.args.image.now) (log c.args.image.now) ≡ c.past-added.result = sym (rw (c.newest.ensures, own) at c.past-added.ensures.0) in
     let a = c.args in
     sym (log-long a.n a.own a.image.now _ lacked (omega (arith, c.if-counts-added.true, logged)))
-
-pub returns-then-counts-added-gt-WRITES_MOST : goal.returns-then-counts-added-gt-WRITES_MOST
-returns-then-counts-added-gt-WRITES_MOST c =
-    let kept : c.counts-counts.result.checkpoint ≡ checkpoint_count c.args.image.now = ap (λ (i : Image). i.checkpoint) c.counts-counts.ensures in
-    let own : c.args.kept ≡ count_of c.args.own (checkpoint c.args.image.now) = c.requires.1 in
-    let lacked : added c.args.own (checkpoint c.args.image.now) (log c.args.image.now) ≡ c.past-added.result = sym (rw (c.newest.ensures, own) at c.past-added.ensures.0) in
-    let a = c.args in
-    sym (log-many a.n a.own a.image.now _ lacked (omega (arith, c.if-counts-added-gt-WRITES_MOST.true, kept)))
 
 pub own_run-requires : goal.own_run-requires
 own_run-requires c =
@@ -77,5 +69,5 @@ returns c =
     c.is_last.ensures
     ∙ rw (kept, logged, rest log_at a.image.now, rest checkpoint_at a.image.now)
     (log-decides a.n a.own a.image.now _ lacked fits
-    (omega (arith, c.if-counts-added-gt-WRITES_MOST.false, kept))
+    (omega (arith, kept))
     (sym runs ∙ c.if-not-own_run.false))
