@@ -11,7 +11,7 @@ use lib.Seq.{take_all, get_or_at, get_or-take, get_or-drop}
 use Rattle.notes.specs.Lists.{every, same}
 use Rattle.notes.specs.Bytes.{pieces}
 use Rattle.notes.specs.Index.{servers}
-use Rattle.notes.specs.Vector.{vector, zeros, at, raised}
+use Rattle.notes.specs.Vector.{vector, zeros, raised}
 use Rattle.notes.specs.Record.{record_size, decode, number, well_formed, records}
 use Rattle.notes.specs.declared.vector.Vector.{Vector}
 use Rattle.notes.specs.declared.record.Record.{Record}

@@ -16,10 +16,10 @@ use Rattle.notes.proofs.Records.{length-records, length-encode}
 use Rattle.rules.specs.declared.state.State.{State}
 use Rattle.rules.specs.declared.event.Request.{Request}
 use Rattle.rules.specs.declared.event.Request.TheVariants.{Write}
-use Rattle.rules.specs.Memory.{Memory, memory, down_of, noting, holding, writes}
-use Rattle.rules.specs.Image.{log_count, checkpoint, log, stored, write_plan}
-use Rattle.rules.specs.Answer.{replying, written_reply, finished}
-use Rattle.rules.specs.Request.{new_vector, new_record, written, noted, due, own_plan, plan, ready, performed, reply_to, served, cut_after}
+use Rattle.rules.specs.Memory.{Memory, memory, noting, holding, writes}
+use Rattle.rules.specs.Image.{log_count, checkpoint, log, stored}
+use Rattle.rules.specs.Answer.{replying, written_reply}
+use Rattle.rules.specs.Request.{new_vector, new_record, written, noted, due, own_plan, plan, ready, performed, reply_to, served}
 use Rattle.laws.proofs.Writes.{count_of-few, length-tally}
 use Rattle.laws.proofs.Stores.{length-write_plan}
 use Rattle.laws.proofs.Sound.{own-count}

@@ -1,7 +1,6 @@
 -- `judge::judge` meets its contract: what is refused first, or sound.
 -- Assumes nothing.
 use Rattle.calls.proofs.Judging.{judge-replies}
-use borrow.Author.Rules.{rules}
 use Rattle.calls.proofs.judge.judge.Goals as goal
 
 pub returns : goal.returns

@@ -1,13 +1,12 @@
 -- `look_up::find` meets its contract. The invariant: the write is found, or not, among the records from the next place on.
 -- Assumes nothing.
-use Prim.Native.Nat.{◌*◌, ◌≤◌, ◌-◌}
+use Prim.Native.Nat.{◌*◌}
 use mathlib.Core.Path.{◌≡◌, sym, ◌∙◌}
 use native.Mathlib.Nat.{add-sub_cancel_left}
-use native.Mathlib.Omega.{arith}
-use lib.ListN.{take, drop, length-take, length-drop}
-use Rattle.notes.specs.Record.{record_size, decode, records}
-use Rattle.rules.specs.Calls.{is_numbered, place_of}
-use Rattle.calls.proofs.LookUp.{place_from, place-start, place_end, place_here, place-later}
+use lib.ListN.{take, drop}
+use Rattle.notes.specs.Record.{record_size, decode}
+use Rattle.rules.specs.Calls.{is_numbered}
+use Rattle.calls.proofs.LookUp.{place_end, place_here, place-later}
 use borrow.Author.Rules.{rules}
 use Rattle.calls.proofs.look_up.find.Goals as goal
 

@@ -3,11 +3,9 @@
 use Prim.Native.Nat.{◌≤◌}
 use mathlib.Core.Bool.{true}
 use mathlib.Core.Path.{◌≡◌, sym, ◌∙◌}
-use borrow.Author.Tests.{not-true, not-false}
 use lib.ListN.{length}
 use Rattle.rules.specs.Image.{image_size}
 use Rattle.calls.proofs.LookUp.{suited, look-9, look-6, look-1, look-passed}
-use borrow.Author.Rules.{rules}
 use Rattle.calls.proofs.look_up.first_refusal.Goals as goal
 
 pub returns-then-image-lt-LEN : goal.returns-then-image-lt-LEN

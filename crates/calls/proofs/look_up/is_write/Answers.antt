@@ -2,7 +2,6 @@
 -- Assumes nothing.
 use mathlib.Core.Path.{sym}
 use Rattle.calls.proofs.LookUp.{other-origin, number-decides}
-use borrow.Author.Rules.{rules}
 use Rattle.calls.proofs.look_up.is_write.Goals as goal
 
 pub returns-then-b-origin : goal.returns-then-b-origin

@@ -1,12 +1,10 @@
 -- `look_up::look_up` meets its contract: the first refusal, or the part where the record stands.
 -- Assumes nothing.
-use mathlib.Core.Path.{sym, ap, ◌∙◌}
+use mathlib.Core.Path.{sym}
 use native.Mathlib.Omega.{arith}
 use lib.ListN.{length-take, length-drop}
 use Rattle.rules.specs.Calls.{look_up}
-use Rattle.rules.specs.Answer.{verdict_refusal}
 use Rattle.calls.proofs.LookUp.{Accepted, accepted, part-of-parts}
-use borrow.Author.Rules.{rules}
 use Rattle.calls.proofs.look_up.look_up.Goals as goal
 
 pub returns-in-Refused : goal.returns-in-Refused

@@ -2,14 +2,13 @@
 -- Assumes nothing.
 use Prim.Native.Nat.{ℕ, ◌<◌}
 use mathlib.Core.Option.{Option, none, some}
-use mathlib.Core.Path.{◌≡◌, ap, sym, ◌∙◌}
+use mathlib.Core.Path.{◌≡◌, sym}
 use native.Mathlib.Nat.{add-sub_cancel_left}
 use native.Mathlib.Omega.{arith}
 use Rattle.notes.specs.Record.{records}
 use Rattle.rules.specs.Calls.{place_of}
-use Rattle.calls.specs.Forms.{placed, part_of}
+use Rattle.calls.specs.Forms.{part_of}
 use Rattle.calls.proofs.LookUp.{place-among}
-use borrow.Author.Rules.{rules}
 use Rattle.calls.proofs.look_up.record_in.Goals as goal
 
 pub returns-in-At : goal.returns-in-At

@@ -2,16 +2,13 @@
 -- Assumes nothing.
 use Prim.Native.Nat.{ℕ, ◌<◌}
 use mathlib.Core.Option.{Option, none, some}
-use mathlib.Core.Path.{◌≡◌, ap, sym, ◌∙◌}
+use mathlib.Core.Path.{◌≡◌, sym, ◌∙◌}
 use native.Mathlib.Omega.{arith}
 use lib.ListN.{length-take, length-drop}
 use Rattle.notes.specs.Message.{history_most}
 use Rattle.rules.specs.Calls.{place_of, stands_at, look_up_refusal}
 use Rattle.rules.specs.Image.{checkpoint, log, log_most}
-use Rattle.rules.specs.Answer.{verdict_refusal}
-use Rattle.calls.specs.Forms.{placed}
 use Rattle.calls.proofs.LookUp.{Accepted, accepted, kept-place, logged-place, place-among}
-use borrow.Author.Rules.{rules}
 use Rattle.calls.proofs.look_up.stands_at.Goals as goal
 
 pub find-requires : goal.find-requires

@@ -1,13 +1,12 @@
 -- `message::message` meets its contract: what the head refuses, 9 for the output, and then the message.
 -- Assumes nothing.
 use mathlib.Core.Option.{none}
-use mathlib.Core.Path.{◌≡◌, sym, ap, ◌∙◌}
+use mathlib.Core.Path.{◌≡◌, sym}
 use native.Mathlib.Omega.{arith}
 use Rattle.notes.specs.Reply.{first}
 use Rattle.rules.specs.Memory.{Memory, memory}
-use Rattle.rules.specs.Answer.{verdict_refusal, head, is_down}
+use Rattle.rules.specs.Answer.{head, is_down}
 use Rattle.calls.proofs.OwnMessage.{held-few, length-bytes, message-refused, message-short, message-filled}
-use borrow.Author.Rules.{rules}
 use Rattle.calls.proofs.message.message.Goals as goal
 
 pub returns-in-Refused : goal.returns-in-Refused

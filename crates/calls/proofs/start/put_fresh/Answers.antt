@@ -4,7 +4,6 @@ use mathlib.Core.Path.{◌∙◌}
 use lib.ListN.{drop}
 use Rattle.rules.specs.Image.{image_size}
 use Rattle.memory.proofs.Header.{fresh-stored}
-use borrow.Author.Rules.{rules}
 use Rattle.calls.proofs.start.put_fresh.Goals as goal
 
 pub returns : goal.returns

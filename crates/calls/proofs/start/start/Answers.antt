@@ -1,18 +1,11 @@
 -- `start::start` meets its contract: each refusal where it stops, and then the fresh server.
 -- Assumes nothing.
-use Prim.Native.Nat.{◌≤◌}
 use mathlib.Core.Bool.{false}
 use mathlib.Core.Path.{◌≡◌, sym, ◌∙◌}
-use native.Mathlib.Omega.{arith}
-use borrow.Author.Tests.{not-true, not-false}
-use lib.ListN.{length}
-use Rattle.rules.specs.Image.{history_size, image_size}
 use Rattle.rules.specs.Memory.{Memory}
 use Rattle.rules.specs.Answer.{short}
 use Rattle.rules.specs.Calls.{no_server}
-use Rattle.laws.proofs.Passed.{long-enough}
 use Rattle.calls.proofs.Starting.{start-9, start-1, start-done}
-use borrow.Author.Rules.{rules}
 use Rattle.calls.proofs.start.start.Goals as goal
 
 pub returns-then-too_short : goal.returns-then-too_short

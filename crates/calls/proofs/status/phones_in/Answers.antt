@@ -1,7 +1,5 @@
 -- `status::phones_in` meets its contract: the number's ones, and the zeros below the lowest.
 -- Assumes nothing.
-use native.Mathlib.Omega.{arith}
-use lib.Count.{ones-le, trailing_le}
 use Rattle.laws.proofs.Status.{members-count, members-none, members-first}
 use borrow.Author.Rules.{rules}
 use Rattle.calls.proofs.status.phones_in.Goals as goal

@@ -1,7 +1,6 @@
 -- `status::status` meets its contract: what the head refuses, or the phones.
 -- Assumes nothing.
 use Rattle.rules.specs.Calls.{status}
-use borrow.Author.Rules.{rules}
 use Rattle.calls.proofs.status.status.Goals as goal
 
 pub returns-in-Refused : goal.returns-in-Refused

@@ -1,17 +1,7 @@
 -- `raw::walk_on` meets its contract. The invariant: the records passed are well formed and in turn, with these counts.
 -- Assumes nothing.
-use Prim.Native.Nat.{ℕ, ◌≤◌, ◌<◌, ◌-◌, ◌*◌}
-use mathlib.Core.Bool.{Bool, true}
-use mathlib.Core.Path.{◌≡◌, sym, ◌∙◌}
-use native.Mathlib.Nat.{add-sub_cancel_left}
-use native.Mathlib.Omega.{arith}
-use borrow.Author.Tests.{not-true, not-false}
-use lib.ListN.{get_or, length-take, length-drop}
-use Rattle.notes.specs.Index.{servers}
-use Rattle.notes.specs.Record.{record_size, number, well_formed}
-use Rattle.notes.specs.declared.record.Record.{Record}
-use Rattle.memory.proofs.Walks.{this, Walked, walked-first, walked_more, walk-unformed, walk-unturned, walk-done, walked-few, origin-low, lent-part}
-use borrow.Author.Rules.{rules}
+use Prim.Native.Nat.{◌≤◌, ◌-◌}
+use Rattle.memory.proofs.Walks.{Walked}
 use Rattle.memory.proofs.raw.walk_on.Given as goal
 
 abbrev pub invariant-loop-k : goal.invariant-loop-k

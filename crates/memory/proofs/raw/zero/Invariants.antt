@@ -1,12 +1,9 @@
 -- `raw::zero` meets its contract. The invariant: zeros are stored at the places passed.
 -- Assumes nothing.
 use Prim.Native.Nat.{◌≤◌, ◌-◌}
-use mathlib.Core.Path.{◌≡◌, refl, ◌∙◌}
-use native.Mathlib.Omega.{arith}
-use lib.ListN.{length, replicate, length-set}
+use mathlib.Core.Path.{◌≡◌}
+use lib.ListN.{length, replicate}
 use lib.Seq.{sets}
-use Rattle.memory.proofs.Zeros.{zeros-more, zeros-all}
-use borrow.Author.Rules.{rules}
 use Rattle.memory.proofs.raw.zero.Given as goal
 
 abbrev pub invariant-loop-i : goal.invariant-loop-i

@@ -1,13 +1,10 @@
 -- `reads::all_zero` meets its contract. The invariant: the counts passed are zero.
 -- Assumes nothing.
 use Prim.Native.Nat.{◌≤◌, ◌-◌}
-use mathlib.Core.Path.{◌≡◌, sym, ◌∙◌}
+use mathlib.Core.Path.{◌≡◌}
 use lib.Dec.{eqb}
-use lib.ListN.{length, take}
-use lib.Seq.{take_all}
+use lib.ListN.{take}
 use Rattle.notes.specs.Lists.{every}
-use Rattle.notes.proofs.Lists.{every_more}
-use borrow.Author.Rules.{rules}
 use Rattle.memory.proofs.reads.all_zero.Given as goal
 
 abbrev pub invariant-loop-i : goal.invariant-loop-i

@@ -2,7 +2,6 @@
 -- Assumes nothing.
 use Rattle.notes.specs.Vector.{zero_from}
 use Rattle.rules.specs.Sound.{is_zero}
-use borrow.Author.Rules.{rules}
 use Rattle.memory.proofs.reads.is_zero.Goals as goal
 
 pub returns : goal.returns

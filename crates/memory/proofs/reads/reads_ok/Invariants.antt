@@ -1,15 +1,11 @@
 -- `reads::reads_ok` meets its contract. The invariant: CR less the phones passed, and the test over these.
 -- Assumes nothing.
 use Prim.Native.Nat.{◌≤◌, ◌-◌, ◌/◌, ◌^◌}
-use mathlib.Core.Path.{◌≡◌, refl, sym, ◌∙◌}
-use native.Mathlib.Nat.{div-one}
+use mathlib.Core.Path.{◌≡◌}
 use lib.ListN.{take}
-use lib.Pow.{shr-shr}
 use Rattle.notes.specs.Lists.{every}
 use Rattle.rules.specs.Memory.{phone_ids}
 use Rattle.rules.specs.Sound.{rw_ok}
-use Rattle.memory.proofs.Tables.{reads_more, reads_all}
-use borrow.Author.Rules.{rules}
 use Rattle.memory.proofs.reads.reads_ok.Given as goal
 
 abbrev pub invariant-loop-i : goal.invariant-loop-i

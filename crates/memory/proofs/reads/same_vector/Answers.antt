@@ -1,11 +1,9 @@
 -- `reads::same_vector` meets its contract. The invariant: the positions passed are the same.
 -- Assumes nothing.
-use Prim.Native.Nat.{◌≤◌, ◌-◌}
 use mathlib.Core.Path.{◌≡◌, sym, ◌∙◌}
-use native.Mathlib.Omega.{arith}
-use lib.ListN.{length, take}
+use lib.ListN.{length}
 use Rattle.notes.specs.Lists.{same}
-use Rattle.memory.proofs.Runs.{same_more, same-all}
+use Rattle.memory.proofs.Runs.{same_more}
 use borrow.Author.Rules.{rules}
 use Rattle.memory.proofs.reads.same_vector.Goals as goal
 

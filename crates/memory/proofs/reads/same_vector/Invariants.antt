@@ -1,12 +1,9 @@
 -- `reads::same_vector` meets its contract. The invariant: the positions passed are the same.
 -- Assumes nothing.
 use Prim.Native.Nat.{◌≤◌, ◌-◌}
-use mathlib.Core.Path.{◌≡◌, sym, ◌∙◌}
-use native.Mathlib.Omega.{arith}
-use lib.ListN.{length, take}
+use mathlib.Core.Path.{◌≡◌}
+use lib.ListN.{take}
 use Rattle.notes.specs.Lists.{same}
-use Rattle.memory.proofs.Runs.{same_more, same-all}
-use borrow.Author.Rules.{rules}
 use Rattle.memory.proofs.reads.same_vector.Given as goal
 
 abbrev pub invariant-loop-i : goal.invariant-loop-i

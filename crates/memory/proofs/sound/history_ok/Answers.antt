@@ -9,7 +9,6 @@ use Rattle.notes.specs.declared.record.Record.{Record}
 use Rattle.memory.specs.Forms.{walk_of}
 use Rattle.memory.specs.declared.raw.Tally.{Tally}
 use Rattle.memory.proofs.Tested.{history-unwalked, history-walked}
-use borrow.Author.Rules.{rules}
 use Rattle.memory.proofs.sound.history_ok.Goals as goal
 
 pub returns-then-not-found : goal.returns-then-not-found

@@ -1,21 +1,16 @@
 -- `sound::image_ok` meets its contract: each test decides where it stops.
 -- Assumes nothing.
-use Prim.Native.Nat.{◌*◌, ◌≤◌}
 use mathlib.Core.List.{List}
 use mathlib.Core.Path.{◌≡◌, sym, ap, ◌∙◌}
 use native.Mathlib.Nat.{add-sub_cancel_left}
 use native.Mathlib.Omega.{arith}
-use borrow.Author.Tests.{not-true, not-false}
-use lib.ListN.{length, length-take, length-drop}
-use Rattle.notes.specs.Record.{record_size, records}
-use Rattle.notes.specs.Message.{history_most}
+use Rattle.notes.specs.Record.{records}
 use Rattle.notes.specs.declared.record.Record.{Record}
 use Rattle.rules.specs.Image.{log_at, checkpoint_count, log_count, checkpoint, log}
 use Rattle.rules.specs.Sound.{is_first}
 use Rattle.memory.specs.declared.image.Image.{Image}
 use Rattle.notes.proofs.Lists.{rest}
 use Rattle.memory.proofs.Tested.{first-bytes, image-differs, image-short, image-unwritten, image-decides}
-use borrow.Author.Rules.{rules}
 use Rattle.memory.proofs.sound.image_ok.Goals as goal
 
 pub returns-then-not-same : goal.returns-then-not-same

@@ -1,9 +1,7 @@
 -- `sound::is_sound` meets its contract: up by the history and the image, down by the image alone.
 -- Assumes nothing.
 use mathlib.Core.Path.{sym, ◌∙◌}
-use borrow.Author.Tests.{not-true, not-false}
 use Rattle.memory.proofs.Tested.{sound-up, down-not, down-decides}
-use borrow.Author.Rules.{rules}
 use Rattle.memory.proofs.sound.is_sound.Goals as goal
 
 pub returns-then-s : goal.returns-then-s

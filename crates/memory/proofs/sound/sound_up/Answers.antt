@@ -67,8 +67,7 @@ pub history_ok-requires : goal.history_ok-requires
 history_ok-requires c =
     let held : List Record = records c.args.s.held c.args.history.now in
     let header : header_ok c.args.s.n c.args.s.own c.args.image.now ≡ true = sym c.header_ok.ensures ∙ c.if-not-header_ok.false in
-    let limited : Limits c.args.s.n c.args.s.own c.args.image.now = limits c.args.s.n c.args.s.own c.args.image.now (search rules) header in
-    (
+    let limited : Limits c.args.s.n c.args.s.own c.args.image.now = limits c.args.s.n c.args.s.own c.args.image.now (search rules) header in (
       record { long = omega (arith, c.if-held-gt-WRITES_MOST.false, c.requires.0); held = c.if-held-gt-WRITES_MOST.false; few = limited.few },
       omega (arith, c.if-held-kept.false),
       sym c.walk-first.ensures ∙ said_ok c.walk-first.result (not-false _ c.if-not-first.false),
@@ -97,8 +96,7 @@ image_ok-requires c =
     c.at.result ≡ c.at-2.result + tail a.s.own (checkpoint a.image.now) held = let a = c.args in
     c.at.ensures
     ∙ counted-past a.s a.history.now a.image.now fits limited.low passed history
-    ∙ ap (λ (k : ℕ). k + tail a.s.own (checkpoint a.image.now) held) (sym before) in
-    (
+    ∙ ap (λ (k : ℕ). k + tail a.s.own (checkpoint a.image.now) held) (sym before) in (
       record { history = c.requires.0; held = c.if-held-gt-WRITES_MOST.false; image = limited.image },
       fits,
       omega (arith, counted),

@@ -1,17 +1,11 @@
 -- `walk::is_last` meets its contract. The invariant: whether all are the last is whether those left are.
 -- Assumes nothing.
-use Prim.Native.Nat.{ℕ, ◌+◌, ◌-◌, ◌≤◌}
-use mathlib.Core.List.{List}
-use mathlib.Core.Path.{◌≡◌, refl, sym, ◌∙◌}
+use Prim.Native.Nat.{◌+◌, ◌-◌}
+use mathlib.Core.Path.{◌≡◌, sym, ◌∙◌}
 use native.Mathlib.Omega.{arith}
 use native.Mathlib.Nat.{add-sub_cancel_left}
-use mathlib.Core.Bool.{Bool, ◌&&◌, and-true, and-false}
-use borrow.Author.Tests.{not-true, not-false}
-use Rattle.notes.specs.Record.{records}
-use Rattle.notes.specs.declared.index.ServerId.{ServerId}
-use Rattle.rules.specs.Writes.{writes_of}
-use Rattle.rules.specs.Sound.{is_last}
-use Rattle.memory.proofs.Runs.{left-none, none_left, left_other, left-own, part-size, not-zero}
+use mathlib.Core.Bool.{◌&&◌, and-true, and-false}
+use Rattle.memory.proofs.Runs.{left-none, none_left, left_other, left-own, not-zero}
 use borrow.Author.Rules.{rules}
 use Rattle.memory.proofs.walk.is_last.Goals as goal
 use Rattle.memory.proofs.walk.is_last.Invariants.{Last}

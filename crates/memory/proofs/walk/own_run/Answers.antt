@@ -1,15 +1,11 @@
 -- `walk::own_run` meets its contract. The invariant: whether all are a run is whether those left are one.
 -- Assumes nothing.
-use Prim.Native.Nat.{◌+◌, ◌≤◌, ◌-◌}
 use mathlib.Core.Bool.{Bool, true}
-use mathlib.Core.Path.{◌≡◌, refl, sym, ◌∙◌}
+use mathlib.Core.Path.{◌≡◌, sym, ◌∙◌}
 use native.Mathlib.Nat.{add-sub_cancel_left}
 use native.Mathlib.Omega.{arith}
-use borrow.Author.Tests.{not-true, not-false}
-use lib.ListN.{drop, length-take, length-drop}
-use Rattle.notes.specs.Record.{number, well_formed, records}
+use Rattle.notes.specs.Record.{number, well_formed}
 use Rattle.notes.specs.declared.record.Record.{Record}
-use Rattle.memory.specs.Forms.{own_run}
 use Rattle.memory.proofs.Walks.{this, origin-low, lent-part}
 use Rattle.memory.proofs.Runs.{run-unformed, run-other, run-unnumbered, run_more, run-all}
 use borrow.Author.Rules.{rules}

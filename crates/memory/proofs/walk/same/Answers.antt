@@ -1,10 +1,7 @@
 -- `walk::same` meets its contract. The invariant: the bytes passed are the same.
 -- Assumes nothing.
-use Prim.Native.Nat.{◌≤◌, ◌-◌}
-use mathlib.Core.Path.{◌≡◌, sym, ◌∙◌}
-use lib.ListN.{length, take}
-use Rattle.notes.specs.Lists.{same}
-use Rattle.memory.proofs.Runs.{same_none, same_more, same-all}
+use mathlib.Core.Path.{sym}
+use Rattle.memory.proofs.Runs.{same_none, same_more}
 use borrow.Author.Rules.{rules}
 use Rattle.memory.proofs.walk.same.Goals as goal
 

@@ -1,11 +1,9 @@
 -- `walk::same` meets its contract. The invariant: the bytes passed are the same.
 -- Assumes nothing.
 use Prim.Native.Nat.{◌≤◌, ◌-◌}
-use mathlib.Core.Path.{◌≡◌, sym, ◌∙◌}
+use mathlib.Core.Path.{◌≡◌}
 use lib.ListN.{length, take}
 use Rattle.notes.specs.Lists.{same}
-use Rattle.memory.proofs.Runs.{same_none, same_more, same-all}
-use borrow.Author.Rules.{rules}
 use Rattle.memory.proofs.walk.same.Given as goal
 
 abbrev pub invariant-loop-i : goal.invariant-loop-i

@@ -1,16 +1,13 @@
 -- `admit::request_head` meets its contract: the head, then the request's own rows.
 -- Assumes nothing.
 use mathlib.Core.Bool.{false}
-use mathlib.Core.List.{[]}
 use mathlib.Core.Option.{none}
-use mathlib.Core.Path.{◌≡◌, sym, ap, ◌∙◌}
+use mathlib.Core.Path.{◌≡◌, sym, ◌∙◌}
 use Rattle.notes.specs.Reply.{first}
 use Rattle.rules.specs.Memory.{Memory, memory}
-use Rattle.rules.specs.Answer.{verdict_refusal, head, is_down}
+use Rattle.rules.specs.Answer.{head, is_down}
 use Rattle.rules.specs.Request.{out_of_range}
-use Rattle.laws.proofs.Passed.{head-known}
 use Rattle.requests.proofs.Admitting.{request-refused, request-out, request-behind, request-full}
-use borrow.Author.Rules.{rules}
 use Rattle.requests.proofs.admit.request_head.Goals as goal
 
 pub returns-in-Refused : goal.returns-in-Refused

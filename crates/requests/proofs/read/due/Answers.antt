@@ -1,7 +1,6 @@
 -- `read::due` meets its contract.
 -- Assumes nothing.
 use Rattle.rules.specs.Request.{due}
-use borrow.Author.Rules.{rules}
 use Rattle.requests.proofs.read.due.Goals as goal
 
 pub returns : goal.returns

@@ -2,7 +2,6 @@
 -- Assumes nothing.
 use mathlib.Core.Path.{refl}
 use Rattle.rules.specs.Memory.{in_set}
-use borrow.Author.Rules.{rules}
 use Rattle.requests.proofs.read.is_in.Goals as goal
 
 pub returns : goal.returns

@@ -2,7 +2,6 @@
 -- Assumes nothing.
 use mathlib.Core.Path.{sym, ◌∙◌}
 use Rattle.rules.specs.Request.{noted}
-use borrow.Author.Rules.{rules}
 use Rattle.requests.proofs.read.noted.Goals as goal
 
 pub returns-then-is_in : goal.returns-then-is_in

@@ -5,7 +5,6 @@ use Rattle.rules.specs.Image.{checkpoint_count}
 use Rattle.rules.specs.declared.event.Request.TheVariants.{Read}
 use Rattle.requests.specs.Forms.{Room}
 use Rattle.requests.proofs.Served.{room, read-plan-all, read-served}
-use borrow.Author.Rules.{rules}
 use Rattle.requests.proofs.read.read.Goals as goal
 
 pub store_due-requires : goal.store_due-requires

@@ -4,7 +4,6 @@ use Rattle.rules.specs.Memory.{memory}
 use Rattle.rules.specs.Request.{cut_after}
 use Rattle.rules.specs.declared.event.Request.TheVariants.{Read}
 use Rattle.requests.proofs.Served.{room}
-use borrow.Author.Rules.{rules}
 use Rattle.requests.proofs.read.read_cut.Goals as goal
 
 pub store_due-requires : goal.store_due-requires

@@ -1,15 +1,12 @@
 -- `read::read_stores` meets its contract: none, or those of a checkpoint.
 -- Assumes nothing.
 use mathlib.Core.Path.{◌≡◌, ap, sym, ◌∙◌}
-use native.Mathlib.Omega.{arith}
-use borrow.Author.Tests.{not-true, not-false}
 use Rattle.rules.specs.Memory.{Memory, memory}
 use Rattle.rules.specs.Image.{checkpoint_count}
 use Rattle.laws.proofs.Stores.{length-checkpoint_plan}
 use Rattle.memory.specs.declared.image.Image.{Image}
 use Rattle.requests.specs.Forms.{Room}
 use Rattle.requests.proofs.Served.{plan-due, plan-none}
-use borrow.Author.Rules.{rules}
 use Rattle.requests.proofs.read.read_stores.Goals as goal
 
 pub returns-then-not-due : goal.returns-then-not-due

@@ -2,7 +2,6 @@
 -- Assumes nothing.
 use mathlib.Core.Path.{sym, ◌∙◌}
 use Rattle.rules.specs.Request.{ready}
-use borrow.Author.Rules.{rules}
 use Rattle.requests.proofs.read.ready.Goals as goal
 
 pub returns-then-due : goal.returns-then-due

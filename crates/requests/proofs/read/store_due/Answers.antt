@@ -1,13 +1,10 @@
 -- `read::store_due` meets its contract: nothing, or the first of a checkpoint's stores.
 -- Assumes nothing.
 use mathlib.Core.Path.{◌≡◌, ap, sym, ◌∙◌}
-use borrow.Author.Tests.{not-true, not-false}
 use Rattle.rules.specs.Image.{checkpoint_count}
 use Rattle.rules.specs.Memory.{Memory, memory}
 use Rattle.memory.specs.declared.image.Image.{Image}
-use Rattle.requests.specs.Forms.{Room}
 use Rattle.requests.proofs.Served.{plan-due, none-stored}
-use borrow.Author.Rules.{rules}
 use Rattle.requests.proofs.read.store_due.Goals as goal
 
 pub returns-then-not-due : goal.returns-then-not-due

@@ -7,7 +7,6 @@ use lib.Bits.{bit_or}
 use lib.Dec.{lit<}
 use lib.Pow.{shl_exact}
 use Rattle.rules.specs.Memory.{with_phone}
-use borrow.Author.Rules.{rules}
 use Rattle.requests.proofs.read.with_phone.Goals as goal
 
 pub returns : goal.returns

@@ -4,10 +4,8 @@ use mathlib.Core.Option.{none}
 use mathlib.Core.Path.{◌≡◌, sym, ap, ◌∙◌, subst}
 use Rattle.notes.specs.Reply.{first}
 use Rattle.rules.specs.Memory.{Memory, memory}
-use Rattle.rules.specs.Answer.{verdict_refusal}
 use Rattle.rules.specs.Request.{served, request_refusals, request}
 use Rattle.laws.proofs.Passed.{Admitted, admitted}
-use borrow.Author.Rules.{rules}
 use Rattle.requests.proofs.request.request.Goals as goal
 
 pub returns-in-Refused : goal.returns-in-Refused

@@ -7,12 +7,10 @@ use native.Mathlib.Omega.{arith}
 use lib.ListN.{length}
 use Rattle.notes.specs.Reply.{first}
 use Rattle.rules.specs.Memory.{Memory, memory}
-use Rattle.rules.specs.Answer.{verdict_refusal}
 use Rattle.rules.specs.Request.{plan, cut_after, request_refusals, cut_refusals, request_cut}
 use Rattle.rules.specs.declared.event.Request.{Request}
 use Rattle.laws.proofs.Passed.{Admitted, admitted}
 use Rattle.requests.proofs.Admitting.{cut-refused, cut-over, cut-passed}
-use borrow.Author.Rules.{rules}
 use Rattle.requests.proofs.request.request_cut.Goals as goal
 
 pub returns-in-Refused : goal.returns-in-Refused

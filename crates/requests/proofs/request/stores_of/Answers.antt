@@ -8,7 +8,6 @@ use Rattle.rules.specs.declared.event.Request.{Request}
 use Rattle.laws.proofs.Passed.{Admitted}
 use Rattle.requests.proofs.Served.{room}
 use Rattle.requests.proofs.Written.{write-stores}
-use borrow.Author.Rules.{rules}
 use Rattle.requests.proofs.request.stores_of.Goals as goal
 
 pub read_stores-requires : goal.read_stores-requires

@@ -3,7 +3,6 @@
 use mathlib.Core.Path.{◌∙◌}
 use native.Mathlib.Omega.{arith}
 use Rattle.requests.proofs.Storing.{checkpoint-cut, checkpoint-between, checkpoint-whole}
-use borrow.Author.Rules.{rules}
 use Rattle.requests.proofs.stores.store_checkpoint.Goals as goal
 
 pub returns-then-k-all : goal.returns-then-k-all

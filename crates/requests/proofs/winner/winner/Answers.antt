@@ -1,13 +1,10 @@
 -- `winner::winner` meets its contract. The invariant: the best so far is the winner among the records passed.
 -- Assumes nothing.
-use Prim.Native.Nat.{◌≤◌, ◌-◌}
 use native.Mathlib.Nat.{add-sub_cancel_left}
-use native.Mathlib.Omega.{arith}
 use mathlib.Core.Option.{some}
 use mathlib.Core.Path.{ap, ◌∙◌}
-use lib.ListN.{length-take, length-drop}
 use Rattle.notes.specs.Record.{decode}
-use Rattle.requests.proofs.Winners.{Leads, leads-none, leads-more, won-none, won-some}
+use Rattle.requests.proofs.Winners.{leads-none, leads-more, won-none, won-some}
 use borrow.Author.Rules.{rules}
 use Rattle.requests.proofs.winner.winner.Goals as goal
 

@@ -1,7 +1,6 @@
 -- `write::new_record` meets its contract.
 -- Assumes nothing.
 use Rattle.rules.specs.Request.{new_record}
-use borrow.Author.Rules.{rules}
 use Rattle.requests.proofs.write.new_record.Goals as goal
 
 pub returns : goal.returns

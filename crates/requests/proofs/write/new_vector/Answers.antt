@@ -1,7 +1,6 @@
 -- `write::new_vector` meets its contract.
 -- Assumes nothing.
 use Rattle.rules.specs.Request.{new_vector}
-use borrow.Author.Rules.{rules}
 use Rattle.requests.proofs.write.new_vector.Goals as goal
 
 pub returns : goal.returns

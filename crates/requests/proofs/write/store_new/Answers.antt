@@ -1,17 +1,13 @@
 -- `write::store_new` meets its contract: the new record's bytes, and the first of their stores.
 -- Assumes nothing.
-use Prim.Native.Nat.{◌<◌}
-use mathlib.Core.Path.{◌≡◌, refl, ap, ◌∙◌}
-use native.Mathlib.Omega.{arith}
+use mathlib.Core.Path.{◌≡◌, ap, ◌∙◌}
 use Rattle.notes.specs.Record.{encode}
 use Rattle.rules.specs.Memory.{Memory, memory}
-use Rattle.rules.specs.Image.{log_count, log_most}
+use Rattle.rules.specs.Image.{log_count}
 use Rattle.rules.specs.Request.{new_record}
 use Rattle.rules.specs.declared.event.Request.TheVariants.{Write}
 use Rattle.memory.specs.declared.image.Image.{Image}
-use Rattle.requests.specs.Forms.{Stored}
 use Rattle.requests.proofs.Written.{small, plan-made}
-use borrow.Author.Rules.{rules}
 use Rattle.requests.proofs.write.store_new.Goals as goal
 
 pub new_record-requires : goal.new_record-requires

@@ -2,7 +2,6 @@
 -- Assumes nothing.
 use mathlib.Core.Path.{refl}
 use Rattle.rules.specs.Request.{cut_after}
-use borrow.Author.Rules.{rules}
 use Rattle.requests.proofs.write.write_cut.Goals as goal
 
 pub returns : goal.returns

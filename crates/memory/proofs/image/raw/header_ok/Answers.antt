@@ -4,7 +4,6 @@ use Prim.Native.Nat.{ℕ, ◌<◌}
 use mathlib.Core.Bool.{true}
 use mathlib.Core.Path.{◌≡◌, ap, sym, ◌∙◌}
 use native.Mathlib.Omega.{arith}
-use borrow.Author.Tests.{not-true, not-false}
 use lib.Dec.{eqb}
 use lib.ListN.{get_or}
 use Rattle.notes.specs.Index.{server_ok}

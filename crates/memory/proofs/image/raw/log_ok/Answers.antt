@@ -3,17 +3,14 @@
 use Prim.Native.Nat.{◌-◌, ◌≤◌}
 use mathlib.Core.Path.{◌≡◌, sym, ap, ◌∙◌}
 use native.Mathlib.Omega.{arith}
-use borrow.Author.Tests.{not-true, not-false}
 use lib.ListN.{drop, length-drop}
 use Rattle.notes.specs.Record.{records}
-use Rattle.notes.specs.Message.{history_most}
-use Rattle.rules.specs.Image.{log_most, checkpoint_at, log_at, log_place, checkpoint_count, log_count, checkpoint, log}
+use Rattle.rules.specs.Image.{checkpoint_at, log_at, log_place, checkpoint_count, log_count, checkpoint, log}
 use Rattle.rules.specs.Writes.{count_of}
 use Rattle.memory.specs.Forms.{Limits, added, own_run}
 use Rattle.memory.specs.declared.image.Image.{Image}
 use Rattle.notes.proofs.Lists.{rest}
 use Rattle.memory.proofs.Tested.{log-long, log-unrun, log-decides, kept-few}
-use borrow.Author.Rules.{rules}
 use Rattle.memory.proofs.image.raw.log_ok.Goals as goal
 
 pub returns-then-counts-added : goal.returns-then-counts-added

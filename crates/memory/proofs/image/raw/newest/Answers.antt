@@ -1,9 +1,7 @@
 -- `image::raw::newest` meets its contract: T at own as it stands in the last record's bytes.
 -- Assumes nothing.
-use Prim.Native.Nat.{◌≤◌}
 use mathlib.Core.Path.{◌≡◌, sym, ap, ◌∙◌}
-use native.Mathlib.Omega.{arith}
-use Rattle.rules.specs.Image.{log_most, log_count}
+use Rattle.rules.specs.Image.{log_count}
 use Rattle.memory.specs.declared.image.Image.{Image}
 use Rattle.memory.proofs.Runs.{not-zero}
 use Rattle.memory.proofs.Tested.{newest-none, newest-some}

@@ -10,7 +10,6 @@ use Rattle.memory.specs.declared.image.Image.{Image}
 use Rattle.memory.specs.declared.raw.Tally.{Tally}
 use Rattle.notes.proofs.Lists.{rest}
 use Rattle.memory.proofs.Tested.{limits, checkpoint-walks, suits-not, suits-unwalked, suits-walked, walked-own}
-use borrow.Author.Rules.{rules}
 use Rattle.memory.proofs.image.raw.suits.Goals as goal
 
 pub returns-then-not-header_ok : goal.returns-then-not-header_ok
