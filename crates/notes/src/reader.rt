@@ -1,5 +1,5 @@
 // A reader of update messages: it holds the message and the place of the next record. The functions over the struct are
-// thin, since their proofs walk them by hand; the work is done by those on a slice and a number.
+// thin; the work is done by those on a slice and a number.
 ghost use Rattle.std.specs.Prelude.{◌≡◌, ◌-◌, leb};
 ghost use Rattle.notes.specs.Record.{record_size};
 ghost use Rattle.notes.specs.Message.{check as check_of, first_place, read_at, place_after, left_from};
@@ -134,7 +134,7 @@ pub fn take<'s, 'a>(r: &'s mut Reader<'a>) -> Item
     x
 }
 
-// A record of a message, by its place. The contract says nothing of a reader, so whoever calls it needs no walk by hand.
+// A record of a message, by its place, for whoever keeps the place and no reader.
 pub fn record_from(message: &[u8], at: usize) -> Item
     ensures { result ≡ read_at message.now at }
 {

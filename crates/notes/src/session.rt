@@ -140,8 +140,7 @@ impl Session {
     }
 }
 
-// The session after a read's reply, for whoever holds it by value: it lies in a local and is raised there. Its contract says
-// nothing of a reference, so callers need no walk by hand.
+// The session after a read's reply, for whoever holds it by value: it lies in a local and is raised there.
 pub fn raised_by(s: Session, reply: Vector) -> Session
     ensures { result ≡ after_read s reply }
 {
