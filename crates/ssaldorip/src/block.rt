@@ -52,6 +52,7 @@ fn put_table(b: &mut [u8], at: usize, t: ReadTable)
 }
 
 // The up byte is 0 or 1, and the spare one zero.
+#[tactic(auto, using(crate::proofs::Stored::block_told))]
 fn block_ok(b: &[u8]) -> bool
     requires { block_size ≤ length b.now }
     ensures { result ≡ block_ok b.now }
