@@ -55,7 +55,7 @@ loop-k-preserved-then-known-number c =
       rw raised
           (l.invariant.2
           ∙ appends-at a.b.now a.count l.k l.vector a.own c.loop-k-test.true higher c.if-b-at.false
-          (omega (arith, numbered, c.if-number-known-ne1.false, c.if-known-number.true))
+          (omega (arith, numbered))
           l.new),
     )
 
