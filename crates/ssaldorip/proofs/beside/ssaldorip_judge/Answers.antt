@@ -11,7 +11,6 @@ use Rattle.rules.specs.Calls.{judge}
 use Rattle.notes.specs.Reply.{Reply}
 use Rattle.ssaldorip.specs.Calls.{Lent, lent, judging}
 use Rattle.ssaldorip.proofs.Reported.{judging-short, judging-done}
-use borrow.Author.Rules.{rules}
 use Rattle.ssaldorip.proofs.beside.ssaldorip_judge.Goals as goal
 
 pub returns-then-state-lt-LEN : goal.returns-then-state-lt-LEN

@@ -9,7 +9,6 @@ use Rattle.calls.specs.Place.{found_reply}
 use Rattle.calls.specs.declared.look_up.Found.{Found}
 use Rattle.ssaldorip.specs.Calls.{place_or_number}
 use Rattle.ssaldorip.proofs.Stateless.{value_or, place-or-number, place-within}
-use borrow.Author.Rules.{rules}
 use Rattle.ssaldorip.proofs.beside.ssaldorip_look_up.Goals as goal
 
 -- what was found is answered by its first value, or its number

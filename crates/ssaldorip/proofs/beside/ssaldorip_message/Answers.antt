@@ -9,7 +9,6 @@ use Rattle.rules.specs.Calls.{message_filled}
 use Rattle.rules.specs.Memory.{memory}
 use Rattle.ssaldorip.specs.Calls.{Lent, lent, left, answered, fills, message_in}
 use Rattle.ssaldorip.proofs.Reported.{fills-short, fills-done}
-use borrow.Author.Rules.{rules}
 use Rattle.ssaldorip.proofs.beside.ssaldorip_message.Goals as goal
 
 pub returns-then-state-lt-LEN : goal.returns-then-state-lt-LEN

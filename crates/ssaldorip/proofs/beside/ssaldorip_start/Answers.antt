@@ -8,7 +8,6 @@ use Rattle.rules.specs.Memory.{Memory}
 use Rattle.rules.specs.Writes.{server}
 use Rattle.ssaldorip.specs.Calls.{vector_size, Lent, lent, no_reply}
 use Rattle.ssaldorip.proofs.Called.{short-state, start-same, plain-met}
-use borrow.Author.Rules.{rules}
 use Rattle.ssaldorip.proofs.beside.ssaldorip_start.Goals as goal
 
 pub returns-then-state-lt-LEN : goal.returns-then-state-lt-LEN

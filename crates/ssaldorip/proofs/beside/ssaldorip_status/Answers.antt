@@ -9,7 +9,6 @@ use Rattle.rules.specs.Calls.{status}
 use Rattle.rules.specs.Memory.{memory}
 use Rattle.ssaldorip.specs.Calls.{Lent, lent, fills, status_in, memory_of}
 use Rattle.ssaldorip.proofs.Reported.{told, fills-short, fills-done, status-told}
-use borrow.Author.Rules.{rules}
 use Rattle.ssaldorip.proofs.beside.ssaldorip_status.Goals as goal
 
 pub returns-then-state-lt-LEN : goal.returns-then-state-lt-LEN

@@ -5,7 +5,6 @@ use mathlib.Core.Path.{sym, ap}
 use lib.Dec.{eqb}
 use Rattle.notes.proofs.Numbers.{from_one}
 use Rattle.ssaldorip.specs.Calls.{state_in}
-use borrow.Author.Rules.{rules}
 use Rattle.ssaldorip.proofs.block.state_in.Goals as goal
 
 pub returns : goal.returns

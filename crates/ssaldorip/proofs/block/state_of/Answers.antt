@@ -1,9 +1,7 @@
 -- `block::state_of` meets its contract: right, or the state of no server.
 -- Assumes nothing.
 use mathlib.Core.Path.{sym, ◌∙◌}
-use borrow.Author.Tests.{not-true, not-false}
 use Rattle.ssaldorip.specs.Calls.{state_of}
-use borrow.Author.Rules.{rules}
 use Rattle.ssaldorip.proofs.block.state_of.Goals as goal
 
 pub returns-then-not-block_ok : goal.returns-then-not-block_ok

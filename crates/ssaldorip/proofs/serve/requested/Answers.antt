@@ -2,7 +2,7 @@
 -- Assumes nothing.
 use Prim.Native.Nat.{◌≤◌}
 use mathlib.Core.List.{[]}
-use mathlib.Core.Path.{◌≡◌, sym, ap, ◌∙◌}
+use mathlib.Core.Path.{◌≡◌, ap, ◌∙◌}
 use native.Mathlib.Omega.{arith}
 use lib.ListN.{length}
 use Rattle.notes.specs.Vector.{vector_from}
@@ -17,7 +17,6 @@ use Rattle.ssaldorip.specs.Calls.{Lent, lent, memory_of, happening}
 use Rattle.ssaldorip.specs.Forms.{reply_size, reply_bytes}
 use Rattle.ssaldorip.proofs.Called.{short-state, short-vector, step_same, settled-met}
 use Rattle.ssaldorip.proofs.Requested.{call-lacking, reply-fits, reply-told}
-use borrow.Author.Rules.{rules}
 use Rattle.ssaldorip.proofs.serve.requested.Goals as goal
 
 pub returns-then-state-lt-LEN : goal.returns-then-state-lt-LEN

@@ -7,7 +7,6 @@ use Rattle.rules.specs.Answer.{verdict_refusal}
 use Rattle.ssaldorip.specs.Calls.{lent, memory_of}
 use Rattle.ssaldorip.proofs.Requested.{away-refused, away-short}
 use mathlib.Core.List.{[]}
-use borrow.Author.Rules.{rules}
 use Rattle.ssaldorip.proofs.serve.turned_away.Goals as goal
 
 pub returns-in-Refused : goal.returns-in-Refused

@@ -10,7 +10,6 @@ use Rattle.ssaldorip.specs.Calls.{left, onto}
 use Rattle.ssaldorip.specs.Sessions.{choice_field, session_in, session_bytes, if_chosen, session_raise}
 use Rattle.ssaldorip.specs.Forms.{heard_as}
 use Rattle.ssaldorip.proofs.Raised.{raise-short, raise-by-short, raise-is}
-use borrow.Author.Rules.{rules}
 use Rattle.ssaldorip.proofs.sessions.raised.Goals as goal
 
 pub returns-then-session-lt-LEN : goal.returns-then-session-lt-LEN

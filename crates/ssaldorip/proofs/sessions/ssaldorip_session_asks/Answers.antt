@@ -13,7 +13,6 @@ use Rattle.notes.proofs.Sessions.{carries-eight}
 use Rattle.ssaldorip.specs.Calls.{put}
 use Rattle.ssaldorip.specs.Sessions.{choice_field, session_in, if_chosen, session_asks}
 use Rattle.ssaldorip.proofs.Raised.{in-eight, asks-short, asks-is, vector-lacks, vector-put}
-use borrow.Author.Rules.{rules}
 use Rattle.ssaldorip.proofs.sessions.ssaldorip_session_asks.Goals as goal
 
 pub returns-then-session-lt-LEN : goal.returns-then-session-lt-LEN

@@ -7,7 +7,6 @@ use Rattle.notes.specs.declared.session.Chosen.TheVariants.{As, Refused}
 use Rattle.ssaldorip.specs.Calls.{left, onto}
 use Rattle.ssaldorip.specs.Sessions.{session_bytes, if_chosen, session_start}
 use Rattle.ssaldorip.proofs.Raised.{start-short, start_is}
-use borrow.Author.Rules.{rules}
 use Rattle.ssaldorip.proofs.sessions.ssaldorip_session_start.Goals as goal
 
 pub returns-then-session-lt-LEN : goal.returns-then-session-lt-LEN

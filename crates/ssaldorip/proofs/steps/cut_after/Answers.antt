@@ -9,7 +9,6 @@ use Rattle.rules.specs.declared.event.What.TheVariants as what
 use Rattle.ssaldorip.specs.Calls.{vector_size, lent, call, happening, no_reply}
 use Rattle.ssaldorip.proofs.Called.{short-vector, vector-enough}
 use lib.ListN.{length}
-use borrow.Author.Rules.{rules}
 use Rattle.ssaldorip.proofs.steps.cut_after.Goals as goal
 
 pub returns-then-asked-lt-SIZE : goal.returns-then-asked-lt-SIZE

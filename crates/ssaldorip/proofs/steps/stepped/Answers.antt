@@ -10,7 +10,6 @@ use Rattle.rules.specs.Step.{step}
 use Rattle.rules.specs.Writes.{server}
 use Rattle.ssaldorip.specs.Calls.{vector_size, lent, happening, no_reply}
 use Rattle.ssaldorip.proofs.Called.{short-state, step_same, plain-met}
-use borrow.Author.Rules.{rules}
 use Rattle.ssaldorip.proofs.steps.stepped.Goals as goal
 
 pub returns-then-state-lt-LEN : goal.returns-then-state-lt-LEN
