@@ -20,19 +20,18 @@ declared() {
 named() {
     grep -rqE "^ *(abbrev |unfoldable )?(pub )?(record |data )?$1( |\$)" --include='*.antt' --exclude-dir=out crates || declared "$1" ||
         grep -rqE "^ *(pub )?$1[(,]" --include='*.rt' --exclude-dir=out crates || grep -qwF -- "$1" include/ssaldorip.h ||
-        find crates docs tests rust include -name "$1*" | grep -q . || command -v "$1" >/dev/null
+        find crates docs tests rust include -path 'crates/*/out' -prune -o -name "$1*" -print | grep -q . || command -v "$1" >/dev/null
 }
 
 there() {
     case $1 in
     requires | ensures) ;; # words of the language
-    io | libc) ;; # the kit's
     wrong:*)
         edit=${1#wrong:}
         [ -e "crates/${edit%/*}/wrong/${edit#*/}.edit" ] || [ -e "crates/${edit%/*}/must-fail/${edit#*/}.edit" ]
         ;;
     *::*) declared "${1##*::}" ;;
-    [A-Z]*.antt | */* | *.txt) [ -e "$1" ] || find crates -name "${1##*/}" | grep -q . ;;
+    [A-Z]*.antt | */* | *.txt) [ -e "$1" ] || find crates -path 'crates/*/out' -prune -o -name "${1##*/}" -print | grep -q . ;;
     [A-Z]*.*) defined "${1%%.*}" "${1##*.}" ;;
     *) named "$1" ;;
     esac

@@ -8,7 +8,7 @@ use crate::message::{Checked, Header};
 use crate::record::Record;
 use crate::{message, record};
 
-// What reading finds: a write, or that no whole record is left. An enum cannot hold a record.
+// What reading finds: a write, or that no whole record is left.
 #[derive(Clone, Copy)]
 pub struct Item {
     pub found: bool,
