@@ -18,7 +18,7 @@ fail() {
 # Whether a log has such an error.
 told() { # LOG PLACE NAME
     grep -F -e "/proofs/$2/Answers.antt:" -e "/proofs/$2/Invariants.antt:" -e "/proofs/$2/Proof.antt:" -e "/proofs/$2.antt:" "$1" | grep -F ": error: \`$3\`" |
-        grep -vE 'was not admitted|is not in scope|has no field|that can be named from here' | grep -q . ||
+        grep -vE 'was not admitted|is not in scope|has no field|that can be named from here|expected type `[^`]*\.(Goals|Given|Lts|Tie)\.' | grep -q . ||
         grep -F "::$(echo "$2" | sed 's|/|::|g'): no proof: " "$1" | grep -F "did not prove" | grep -qF "\`$3\`"
 }
 
