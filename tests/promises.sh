@@ -13,7 +13,7 @@ defined() {
 
 # A function, constant or type of this name, or a module.
 declared() {
-    grep -qE "(fn|const|struct|enum) $1\b" crates/*/src/*.rt crates/*/src/*/*.rt || ls crates/*/src/"$1".rt >/dev/null 2>&1
+    grep -qE "(fn|const|struct|enum|trait|type) $1\b" crates/*/src/*.rt crates/*/src/*/*.rt || ls crates/*/src/"$1".rt >/dev/null 2>&1
 }
 
 # A definition, theorem, field or constructor of any file; a function, type or variant; an exported function; a crate, a file, a tool.

@@ -2,9 +2,10 @@
 -- Assumes nothing.
 use Prim.Native.Nat.{ℕ, suc, ◌+◌, ◌*◌, ◌≤◌, ◌<◌}
 use mathlib.Core.Bool.{Bool, true, false, not}
-use mathlib.Core.List.{List, [], ◌∷◌}
+use mathlib.Core.List.{List, [], ◌∷◌, map as list_map}
+use Rattle.std.specs.List.{position_from}
 use mathlib.Core.Option.{Option, none, some, map, some-ne-none}
-use mathlib.Core.Path.{◌≡◌, refl, sym}
+use mathlib.Core.Path.{◌≡◌, refl, sym, ◌∙◌}
 use native.Mathlib.Nat.{add-zero, zero-add}
 use native.Mathlib.Numerals.{add-one}
 use native.Mathlib.Omega.{arith}
@@ -23,12 +24,18 @@ use Rattle.notes.proofs.Records.{length-records, record-at}
 use Rattle.rules.specs.declared.answer.Refusal.TheVariants.{OutOfRange, Unsound, TooShort}
 use Rattle.rules.specs.Image.{history_size, log_most, image_size, image_n, image_own, checkpoint_count, log_count, header_ok, checkpoint_area, log_area, checkpoint, log, checkpoint_place, log_place}
 use Rattle.rules.specs.Sound.{suits}
-use Rattle.rules.specs.Calls.{is_numbered, or_later, place_of, stands_at, bytes_at, look_up_refusal}
+use Rattle.rules.specs.Calls.{is_numbered, or_later, place_of, reply_unless, look_up_refusal}
 use Rattle.laws.proofs.Places.{part_in, records-in}
 use Rattle.laws.proofs.Passed.{ungiven}
 use Rattle.memory.specs.Forms.{Sized}
 use Rattle.memory.proofs.Tested.{limits}
-use Rattle.calls.specs.Forms.{part_at, part_of}
+use Rattle.std.specs.Prelude.{Result, Ok, Err, Some, None, IfOk}
+use Rattle.std.specs.Prelude.{Option as Maybe}
+use Rattle.rules.specs.declared.answer.Refusal.{Refusal}
+use Rattle.rules.specs.Answer.{verdict_refusal}
+use Rattle.notes.specs.Message.{history_most}
+use Rattle.calls.specs.Forms.{placed}
+use Rattle.calls.specs.Place.{place_reply, found_reply}
 
 module _ (o : ServerId) (n : ℕ) where
   -- the origin's byte decides, or else the number
@@ -52,48 +59,41 @@ module _ (o : ServerId) (n : ℕ) where
       go false none h e = absurd (some-ne-none p (sym e))
       go false (some j) h e = let z : suc j ≡ p = cc in omega (arith, h j refl)
 
-  -- ---- the first of k records, looked for place by place
   module _ (k : ℕ) (b : List ℕ) where
     pub place-among : (p : ℕ) → place_of o n (records k b) ≡ some p → p < k
     place-among p e = rw length-records at (place-below (records k b) p e)
 
-    abbrev behind : ℕ → Option ℕ → Option ℕ
-    behind j none = none
-    behind j (some p) = some (j + p)
+  -- ---- the first of the records with these bytes
+  abbrev test : List ℕ → Bool
+  test x = is_numbered o n (decode x)
 
-    -- what is found from place j on
-    abbrev pub place_from : ℕ → Option ℕ
-    place_from j = behind j (place_of o n (drop j (records k b)))
+  abbrev behind : ℕ → Option ℕ → Option ℕ
+  behind j none = none
+  behind j (some p) = some (j + p)
 
-    pub place-start : place_from 0 ≡ place_of o n (records k b)
-    place-start = go (place_of o n (records k b))
-      where
-        go : (x : Option ℕ) → behind 0 x ≡ x
-        go none = refl
-        go (some p) = rw zero-add
+  placed-from : (i : ℕ) (b : List (List ℕ)) → placed (position_from test i b) ≡ behind i (place_of o n (list_map decode b))
+  unfolding place_of
+  placed-from i [] = refl
+  placed-from i (x ∷ b) = go (test x) refl (placed-from (i + 1) b)
+    where
+      next : (r : Option ℕ) → behind (i + 1) r ≡ behind i (map suc r)
+      next none = refl
+      next (some p) = let q : i + 1 + p ≡ i + suc p = omega arith in rw q
 
-    pub place_end : (j : ℕ) → k ≤ j → place_from j ≡ none
-    unfolding place_of
-    place_end j h = rw (drop_of_length-le (records k b) {i = j} (rw length-records h))
+      go :
+          (t : Bool)
+          → test x ≡ t
+          → placed (position_from test (i + 1) b) ≡ behind (i + 1) (place_of o n (list_map decode b))
+          → placed (position_from test i (x ∷ b)) ≡ behind i (or_later (test x) (place_of o n (list_map decode b)))
+      go true e h = rw (e, add-zero)
+      go false e h = rw e (h ∙ next (place_of o n (list_map decode b)))
 
-    module _ (j : ℕ) (h : j < k) where
-      abbrev here : Record
-      here = decode (take record_size (drop (record_size * j) b))
-
-      from-here : drop j (records k b) ≡ here ∷ drop (j + 1) (records k b)
-      from-here = rw (drop-cons (records k b) j (decode []) (rw length-records h), record-at k b j h, add-one)
-
-      pub place_here : is_numbered o n here ≡ true → place_from j ≡ some j
-      unfolding place_of
-      place_here e = rw (from-here, e, add-zero)
-
-      pub place-later : is_numbered o n here ≡ false → place_from j ≡ place_from (j + 1)
-      unfolding place_of
-      place-later e = rw (from-here, e) (go (place_of o n (drop (j + 1) (records k b))))
-        where
-          go : (x : Option ℕ) → behind j (map suc x) ≡ behind (j + 1) x
-          go none = refl
-          go (some p) = let q : j + suc p ≡ j + 1 + p = omega arith in rw q
+  pub first-placed : (b : List (List ℕ)) → placed (position_from test 0 b) ≡ place_of o n (list_map decode b)
+  first-placed b = placed-from 0 b ∙ go (place_of o n (list_map decode b))
+    where
+      go : (r : Option ℕ) → behind 0 r ≡ r
+      go none = refl
+      go (some p) = rw zero-add
 
 -- ---- in an image
 
@@ -104,52 +104,32 @@ suited i = suits (get_or i 0 0) (record { 0 = get_or i 1 0 }) i
 is-suited : (i : List ℕ) → suits (image_n i) (image_own i) i ≡ suited i
 is-suited i = rw (from_one 0 i, from_one 1 i)
 
--- the bytes of its checkpoint's places, and of its log's
-abbrev pub checkpoint_part : List ℕ → List ℕ
-checkpoint_part i = take history_size (checkpoint_area i)
-
-abbrev pub log_part : List ℕ → List ℕ
-log_part i = take (record_size * log_most) (log_area i)
-
 -- what is known of an image that is not refused: its counts are not too great, and the origin is one of the eight
 pub record Accepted (i : List ℕ) (o : ServerId) : Type 0 where
   pub image : Sized i
   pub origin : o.0 < servers
 
+-- where a write stands there are so many records at the most
+module _ (i : List ℕ) (o : ServerId) (n : ℕ) (s : Sized i) (k : ℕ) where
+  pub kept-below : place_of o n (checkpoint i) ≡ some k → k < history_most
+  unfolding checkpoint
+  kept-below e = omega (arith, s.kept, place-among o n (checkpoint_count i) (checkpoint_area i) k e)
+
+  pub logged-below : place_of o n (log i) ≡ some k → k < log_most
+  unfolding log
+  logged-below e = omega (arith, s.logged, place-among o n (log_count i) (log_area i) k e)
+
+-- what is refused, or where it stands, is the reply
+pub place-replied :
+    (r : Result (Maybe ℕ) Refusal) (q : Option Refusal) (p : Option ℕ)
+    → verdict_refusal r ≡ q
+    → IfOk r (λ x. placed x ≡ p)
+    → found_reply r ≡ reply_unless q (place_reply p)
+place-replied (Ok (Some x)) q p e f = rw (← e, ← f)
+place-replied (Ok None) q p e f = rw (← e, ← f)
+place-replied (Err k) q p e f = rw (← e)
+
 module _ (i : List ℕ) (o : ServerId) where
-  module _ (n : ℕ) (a : Accepted i o) where
-    -- a write's place among the records of a part is that in the image's checkpoint, or log
-    pub kept-place : place_of o n (records (checkpoint_count i) (checkpoint_part i)) ≡ place_of o n (checkpoint i)
-    unfolding checkpoint
-    kept-place = rw (records-in (checkpoint_count i) history_size (checkpoint_area i) (omega arith))
-
-    pub logged-place : place_of o n (records (log_count i) (log_part i)) ≡ place_of o n (log i)
-    unfolding log
-    logged-place = rw (records-in (log_count i) (record_size * log_most) (log_area i) (omega arith))
-
-    -- the bytes in its checkpoint or else its log are those where the record stands
-    pub part-of-parts : part_of (checkpoint_part i) (checkpoint_count i) (log_part i) (log_count i) o n ≡ bytes_at i (stands_at i o n)
-    unfolding part_of stands_at checkpoint log
-    part-of-parts =
-        rw (kept-place, logged-place)
-        (go
-        (place_of o n (checkpoint i))
-        (place_of o n (log i))
-        (place-among o n (checkpoint_count i) (checkpoint_area i))
-        (place-among o n (log_count i) (log_area i)))
-      where
-        go :
-            (x y : Option ℕ)
-            → ((k : ℕ) → x ≡ some k → k < checkpoint_count i)
-            → ((k : ℕ) → y ≡ some k → k < log_count i)
-            → part_at (checkpoint_part i) x (part_at (log_part i) y [])
-            ≡ bytes_at i (or_else (map checkpoint_place x) (map log_place y))
-        go (some k) y f g =
-            rw (part_in record_size (record_size * k) history_size (checkpoint_area i) (omega (arith, f k refl)), drop-drop)
-        go none (some k) f g =
-            rw (part_in record_size (record_size * k) (record_size * log_most) (log_area i) (omega (arith, g k refl)), drop-drop)
-        go none none f g = refl
-
   -- ---- what a look-up refuses
   pub look-9 : length i < image_size → look_up_refusal i o ≡ some TooShort
   unfolding look_up_refusal

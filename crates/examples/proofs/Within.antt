@@ -3,31 +3,23 @@
 use Prim.Native.Nat.{ℕ, ◌≤◌}
 use mathlib.Core.List.{List}
 use mathlib.Core.Option.{Option, none, some, map}
-use mathlib.Core.Path.{◌≡◌, ap, sym}
+use mathlib.Core.Path.{◌≡◌, ap}
 use native.Mathlib.Omega.{arith}
 use lib.ListN.{length, get_or, drop, length-append}
-use lib.Seq.{length-take-le}
-use Rattle.examples.specs.Counts.{IsPrefixLen}
+use Rattle.std.specs.Prelude.{Ok}
 use Rattle.notes.specs.Reply.{Filled, first, fill}
 use Rattle.notes.specs.Message as notes
 use Rattle.notes.specs.declared.index.ServerId.{ServerId}
-use Rattle.notes.specs.declared.message.Written.{Written}
-use Rattle.notes.specs.declared.message.Written.TheVariants as written
 use Rattle.notes.proofs.Answers.{filled_within}
 use Rattle.rules.specs.Memory.{Memory}
 use Rattle.rules.specs.Answer.{refusal_reply}
 use Rattle.rules.specs.Calls as calls
 use Rattle.rules.specs.declared.answer.Refusal.{Refusal}
-use Rattle.rules.specs.declared.answer.Message.{Message}
-use Rattle.rules.specs.declared.answer.Message.TheVariants as message
-
-within-counts : (k : ℕ) (xs : List ℕ) → k ≤ length xs → IsPrefixLen k xs
-within-counts k xs h = (h, sym (length-take-le k xs h))
 
 -- a refusal has no values
 fill-within :
     (r : Option Refusal) (bytes out : List ℕ) (k : ℕ) (after : List ℕ)
-    → calls.message_filled (message.Bytes k) after ≡ fill (map refusal_reply r) bytes out
+    → calls.message_filled (Ok k) after ≡ fill (map refusal_reply r) bytes out
     → k ≤ length after
 fill-within (some r) bytes out k after e = let values = ap (λ (f : Filled). length f.reply.values) e in absurd (omega arith)
 fill-within none bytes out k after e =
@@ -36,21 +28,16 @@ fill-within none bytes out k after e =
     omega (arith, l, o, length-append bytes (drop (length bytes) out))
 
 pub message-within :
-    (m : Memory) (out : List ℕ) (a : Message) (k : ℕ) (after : List ℕ)
-    → a ≡ message.Bytes k
-    → calls.message_filled a after ≡ calls.message m out
-    → IsPrefixLen k after
+    (m : Memory) (out : List ℕ) (k : ℕ) (after : List ℕ)
+    → calls.message_filled (Ok k) after ≡ calls.message m out
+    → k ≤ length after
 unfolding calls.message
-message-within m out a k after is e =
-    within-counts k after
-    (fill-within (first (calls.message_refusals m out)) (calls.own_message m) out k after (rw is at e))
+message-within m out k after e = fill-within (first (calls.message_refusals m out)) (calls.own_message m) out k after e
 
 pub write-within :
-    (n : ℕ) (sender : ServerId) (records out : List ℕ) (w : Written) (k : ℕ) (after : List ℕ)
-    → w ≡ written.Bytes k
-    → notes.filled w after ≡ notes.write n sender records out
-    → IsPrefixLen k after
+    (n : ℕ) (sender : ServerId) (records out : List ℕ) (k : ℕ) (after : List ℕ)
+    → notes.filled (Ok k) after ≡ notes.write n sender records out
+    → k ≤ length after
 unfolding notes.write
-write-within n sender records out w k after is e =
-    within-counts k after
-    (filled_within (notes.write_refusal n sender records out) (notes.message_of n sender (notes.records_in records)) out k after (rw is at e))
+write-within n sender records out k after e =
+    filled_within (notes.write_refusal n sender records out) (notes.message_of n sender (notes.records_in records)) out k after e

@@ -12,25 +12,33 @@ mod reads;
 mod tell;
 mod updates;
 
-use memory::image::Image;
+use act::Stage;
+use rules::answer::Refusal;
+use std::process::ExitCode;
 
 // The servers use the same buffers one after the other: starting anew takes them as they are.
-fn main(rt: HostRuntime) {
-    let to = rt.stdout();
-    let mut history = [0u8; Image::HISTORY_LEN];
-    let mut image = [0u8; Image::LEN];
-    reads::one(to, &mut history, &mut image);
-    updates::two(to, &mut history, &mut image);
-    updates::three(to, &mut history, &mut image);
-    reads::four(to, &mut history, &mut image);
-    reads::five(to, &mut history, &mut image);
-    reads::six(to, &mut history, &mut image);
-    cuts::seven(to, 28, &mut history, &mut image);
-    cuts::seven(to, 29, &mut history, &mut image);
-    cuts::eight(to, 28, &mut history, &mut image);
-    cuts::eight(to, 29, &mut history, &mut image);
-    cuts::eight(to, 30, &mut history, &mut image);
-    updates::nine(to, &mut history, &mut image);
-    full::ten(to, &mut history, &mut image);
-    full::ten_held(to, &mut history, &mut image);
+fn all(stage: &mut Stage) -> Result<(), Refusal> {
+    reads::one(stage);
+    updates::two(stage)?;
+    updates::three(stage)?;
+    reads::four(stage);
+    reads::five(stage);
+    reads::six(stage);
+    cuts::seven(stage, 28);
+    cuts::seven(stage, 29);
+    cuts::eight(stage, 28);
+    cuts::eight(stage, 29);
+    cuts::eight(stage, 30);
+    updates::nine(stage)?;
+    full::ten(stage)?;
+    full::ten_held(stage)
+}
+
+// A refusal of what is done and not told, which no example expects, ends the program with status 1.
+fn main(rt: HostRuntime) -> ExitCode {
+    let mut stage = Stage::new(rt.stdout());
+    match all(&mut stage) {
+        Ok(()) => ExitCode::SUCCESS,
+        Err(_) => ExitCode::FAILURE,
+    }
 }

@@ -1,90 +1,67 @@
 // Lines on standard output: a name and numbers, or a listing.
-ghost use Rattle.std.specs.Prelude.{◌≡◌, take};
-
-use memory::refusal;
-use notes::message::Written;
-use notes::number;
 use notes::vector::Vector;
-use rules::answer::{Answer, Status};
-use std::io::Stdout;
+use rules::answer::{Answer, Outcome, Phones, Refusal};
+use std::io::{Stdout, Write};
 use text::{line, listing};
 
 // Room for a line.
 const LINE: usize = 200;
 
-// A write that fails is let go, here and below.
-pub(crate) fn say(to: Stdout, name: &[u8], xs: &[u32]) {
-    let mut out = [0u8; LINE];
-    let put = line::line(name, xs, &mut out);
-    if let Written::Bytes(k) = put {
-        let _ = to.write_all(&out[..k]);
-    }
+// Tells on standard output. A write that fails is let go.
+#[derive(Clone, Copy)]
+pub(crate) struct Teller {
+    pub(crate) to: Stdout,
 }
 
-// The listing of a message.
-pub(crate) fn list(to: Stdout, message: &[u8]) {
-    let mut out = [0u8; listing::ROOM];
-    let put = listing::list(message, &mut out);
-    if let Written::Bytes(k) = put {
-        let _ = to.write_all(&out[..k]);
-    }
+// A refusal's number in document 01.
+fn number(refusal: Refusal) -> u32 {
+    u32::from(u8::from(refusal))
 }
 
-// The first n numbers, or all where there are fewer.
-fn front(xs: &[u32], n: u8) -> &[u32]
-    ensures { result.now ≡ take n xs.now }
-{
-    let k = n as usize;
-    if xs.len() <= k {
-        return xs;
-    }
-    &xs[..k]
-}
-
-// The positions of a vector that N servers use.
-pub(crate) fn vector(to: Stdout, name: &[u8], v: Vector, n: u8) {
-    let xs = [
-        number::wide32(v.counts[0]),
-        number::wide32(v.counts[1]),
-        number::wide32(v.counts[2]),
-        number::wide32(v.counts[3]),
-        number::wide32(v.counts[4]),
-        number::wide32(v.counts[5]),
-        number::wide32(v.counts[6]),
-        number::wide32(v.counts[7]),
-    ];
-    say(to, name, front(&xs, n));
-}
-
-// A reply's number and values, and V where the reply has it.
-pub(crate) fn reply(to: Stdout, answer: Answer, v: Vector, n: u8) {
-    match answer {
-        Answer::Value(x) => {
-            say(to, b"  reply", &[0, 1, x]);
-            vector(to, b"  reply V", v, n);
+impl Teller {
+    // A name, and numbers behind it.
+    pub(crate) fn say(self, name: &[u8], xs: &[u32]) {
+        let mut out = [0; LINE];
+        if let Ok(len) = line::line(name, xs, &mut out) {
+            let _ = self.to.write_all(&out[..len]);
         }
-        Answer::NoNote => {
-            say(to, b"  reply", &[0, 0]);
-            vector(to, b"  reply V", v, n);
-        }
-        Answer::Written => {
-            say(to, b"  reply", &[0]);
-            vector(to, b"  reply V", v, n);
-        }
-        Answer::Done => say(to, b"  reply", &[0]),
-        Answer::Refused(k) => say(to, b"  reply", &[refusal::number(k) as u32]),
     }
-}
 
-// A status: its number, how many phones are in CR, and the lowest numbered one.
-pub(crate) fn status(to: Stdout, s: Status) {
-    match s {
-        Status::Nobody => say(to, b"  status", &[0, 0]),
-        Status::Phones { count, lowest } => say(
-            to,
-            b"  status",
-            &[0, count as u32, lowest.0 as u32],
-        ),
-        Status::Refused(k) => say(to, b"  status", &[refusal::number(k) as u32]),
+    // The listing of a message.
+    pub(crate) fn list(self, message: &[u8]) {
+        let mut out = [0; listing::ROOM];
+        if let Ok(len) = listing::list(message, &mut out) {
+            let _ = self.to.write_all(&out[..len]);
+        }
+    }
+
+    // The positions of a vector that N servers use.
+    pub(crate) fn vector(self, name: &[u8], v: Vector, n: u8) {
+        let xs = v.counts.map(u32::from);
+        self.say(name, &xs[..usize::from(n).min(xs.len())]);
+    }
+
+    // A reply's number and values, and V where the reply has it.
+    pub(crate) fn reply(self, outcome: Outcome, n: u8) {
+        match outcome {
+            Ok(Answer::Read(Some(value), _)) => self.say(b"  reply", &[0, 1, value]),
+            Ok(Answer::Read(None, _)) => self.say(b"  reply", &[0, 0]),
+            Ok(_) => self.say(b"  reply", &[0]),
+            Err(refusal) => self.say(b"  reply", &[number(refusal)]),
+        }
+        if let Ok(Answer::Read(_, v) | Answer::Written(v)) = outcome {
+            self.vector(b"  reply V", v, n);
+        }
+    }
+
+    // A status: its number, how many phones are in CR, and the lowest numbered one.
+    pub(crate) fn status(self, status: Result<Option<Phones>, Refusal>) {
+        match status {
+            Ok(Some(Phones { count, lowest })) => {
+                self.say(b"  status", &[0, u32::from(count), u32::from(lowest.0)]);
+            }
+            Ok(None) => self.say(b"  status", &[0, 0]),
+            Err(refusal) => self.say(b"  status", &[number(refusal)]),
+        }
     }
 }

@@ -5,8 +5,9 @@ use mathlib.Core.List.{List, [], ◌∷◌, ◌++◌}
 use mathlib.Core.Path.{◌≡◌, refl, ap, sym, ◌∙◌}
 use native.Mathlib.Nat.{zero-add}
 use native.Mathlib.Omega.{arith}
-use lib.ListN.{length, take, drop, set, length-drop}
-use lib.Seq.{sets, take-nil, take_all, take-take, take_at, drop-drop, take-set-le, take-set-lt, drop-set-lt, drop-set-add}
+use borrow.Rule.Slice.PartMut.{put_mid}
+use lib.ListN.{length, take, drop, set, replicate, length-drop}
+use lib.Seq.{sets, length-take-le, take-nil, take_all, take-take, take_at, drop-drop, take-set-le, take-set-lt, drop-set-lt, drop-set-add}
 use Rattle.notes.specs.Bytes.{to_bytes, pieces}
 use Rattle.notes.specs.Index.{servers}
 use Rattle.notes.specs.Record.{record_size, decode, encode, records, record_bytes}
@@ -184,3 +185,11 @@ decode-encoded r c l h =
       cell = from-to 2 r.cell c;
       stamp = vector-from r.stamp l h;
     }
+
+-- zeros over a part, as `fill(0)` of `b[p..p + k]` leaves the whole
+pub zeroed :
+    (p k : ℕ) (b zeros : List ℕ)
+    → p + k ≤ length b
+    → zeros ≡ replicate (length (take k (drop p b))) 0
+    → put_mid p k b zeros ≡ take p b ++ (replicate k 0 ++ drop (p + k) b)
+zeroed p k b zeros h e = rw (e, length-take-le k (drop p b) (rw length-drop (omega arith)), drop-drop)

@@ -1,7 +1,7 @@
 // Reads one message from standard input and prints its listing.
 #![tactic(auto)]
 
-use notes::message::{Header, Written};
+use notes::message::Header;
 use std::io;
 use std::io::Read;
 use text::listing;
@@ -13,17 +13,12 @@ fn main(rt: HostRuntime) -> io::Result<()> {
     let mut input = [0u8; INPUT];
     let mut n = 0;
     let mut from = rt.stdin();
-    for _ in 0..INPUT {
-        // An input that cannot be read, as a closed one, ends where it stands.
-        let read = from.read(&mut input[n..]).unwrap_or(0);
-        if read == 0 {
-            break;
-        }
+    // An input that cannot be read, as a closed one, ends where it stands.
+    while let Ok(read @ 1..) = from.read(&mut input[n..]) {
         n += read;
     }
     let mut out = [0u8; listing::ROOM];
-    let listed = listing::list(&input[..n], &mut out);
-    if let Written::Bytes(k) = listed {
+    if let Ok(k) = listing::list(&input[..n], &mut out) {
         rt.write_all(&out[..k])?;
     }
     Ok(())

@@ -1,4 +1,5 @@
 -- The files of laws and theorems, beside the proofs of functions.
+pub mod Listed
 pub mod Same
 pub mod Up
 pub mod Down
@@ -7,6 +8,4 @@ pub mod Runs
 pub mod Tables
 pub mod Header
 pub mod Tested
-pub mod Zeros
-pub mod Heads
 pub mod Unique

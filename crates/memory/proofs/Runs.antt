@@ -1,99 +1,61 @@
--- Laws of loops that compare: one byte or one record more, and the end.
+-- Laws of loops that compare: a run of own records, one more, and the end; the first and the last of some writes.
 -- Assumes nothing.
-use Prim.Native.Nat.{ℕ, zero, suc, ◌+◌, ◌-◌, ◌*◌, ◌≤◌, ◌<◌}
-use mathlib.Core.Bool.{Bool, true, false, ◌&&◌, and-true, and-false, and_assoc}
-use mathlib.Core.List.{List, [], ◌∷◌, ◌++◌, append-nil}
+use Prim.Native.Nat.{ℕ, suc, ◌+◌, ◌-◌, ◌≤◌, ◌<◌}
+use mathlib.Core.Bool.{Bool, true, false, ◌&&◌, and-false, and_assoc}
+use mathlib.Core.List.{List, [], ◌∷◌, ◌++◌, append-nil, map}
 use mathlib.Core.Path.{◌≡◌, refl, ap, sym, ◌∙◌}
 use native.Mathlib.Numerals.{add-one}
 use native.Mathlib.Omega.{arith}
 use borrow.Author.Tests.{eq-eqb, ne_eqb}
 use lib.Dec.{eqb}
-use lib.ListN.{length, get_or, take, drop, length-append, length-drop, drop_of_length-le}
-use lib.Seq.{length-take-le, take_all, drop-cons, drop-append-le, drop-nil, drop-length}
-use Rattle.notes.specs.Lists.{same}
-use Rattle.notes.specs.Bytes.{pieces}
-use Rattle.notes.specs.Record.{record_size, decode, number, well_formed, records}
+use lib.ListN.{length, get_or, drop, length-append}
+use lib.Seq.{drop-append-le, drop-nil, drop-length}
+use Rattle.notes.specs.Record.{decode, number, well_formed}
 use Rattle.notes.specs.declared.index.ServerId.{ServerId}
 use Rattle.notes.specs.declared.record.Record.{Record}
-use Rattle.notes.proofs.Lists.{take_more}
-use Rattle.notes.proofs.Numbers.{AllBelow, below-drop}
-use Rattle.notes.proofs.Records.{length-records, record-at}
+use Rattle.notes.proofs.Numbers.{from_one}
 use Rattle.rules.specs.Writes.{keep, writes_of, same_records}
 use Rattle.rules.specs.Sound.{is_last}
 use Rattle.laws.proofs.Writes.{writes_of-append, writes_of-here, writes_of-other}
-use Rattle.laws.proofs.Places.{records-take}
 use Rattle.memory.specs.Forms.{own_run}
-use Rattle.memory.proofs.Same.{records-same}
+use Rattle.memory.proofs.Listed.{listed-rest, listed-done, listed-push}
 use Rattle.memory.proofs.Walks.{this, origin, origin-at}
 
--- a number that is not zero
-pub not-zero : (k : ℕ) → (k ≡ 0 → ⊥) → 0 < k
-not-zero zero h = absurd (h refl)
-not-zero (suc k) h = omega arith
-
--- ---- bytes
-same-snoc : (a b : List ℕ) (x y : ℕ) → length a ≡ length b → same (a ++ x ∷ []) (b ++ y ∷ []) ≡ (same a b && eqb x y)
-unfolding same
-same-snoc [] [] x y h = and-true (eqb x y)
-same-snoc [] (z ∷ b) x y h = absurd (omega arith)
-same-snoc (w ∷ a) [] x y h = absurd (omega arith)
-same-snoc (w ∷ a) (z ∷ b) x y h = rw (same-snoc a b x y (omega arith), and_assoc)
-
-module _ (a b : List ℕ) (l : length a ≡ length b) where
-  pub same_none : same (take 0 a) (take 0 b) ≡ true
-  unfolding same
-  same_none = refl
-
-  pub same_more :
-      (i : ℕ)
-      → i < length a
-      → same (take (i + 1) a) (take (i + 1) b) ≡ (same (take i a) (take i b) && eqb (get_or a i 0) (get_or b i 0))
-  same_more i h =
-      rw (take_more a i 0 h, take_more b i 0 (omega arith))
-      (same-snoc (take i a) (take i b) (get_or a i 0) (get_or b i 0) (rw (length-take-le i a (omega arith), length-take-le i b (omega arith))))
-
-  pub same-all : (i : ℕ) → length a ≤ i → same (take i a) (take i b) ≡ same a b
-  same-all i h = rw (take_all i a h, take_all i b (omega arith))
-
 -- ---- a run of own records
-module _ (n : ℕ) (own : ServerId) (b : List ℕ) (count : ℕ) where
-  module _ (i : ℕ) (h : i < count) where
-    pub next-record : drop i (records count b) ≡ this n count b i ∷ drop (i + 1) (records count b)
-    next-record =
-        drop-cons (records count b) i (decode []) (rw length-records h) ∙ rw (record-at count b i h, add-one)
-
+module _ (n : ℕ) (own : ServerId) (b : List (List ℕ)) where
+  module _ (i : ℕ) (h : i < length b) where
     module _ (k : ℕ) where
-      pub run-unformed : well_formed n (this n count b i) ≡ false → own_run n own k (drop i (records count b)) ≡ false
+      pub run-unformed : well_formed n (this n b i) ≡ false → own_run n own k (drop i (map decode b)) ≡ false
       unfolding own_run
-      run-unformed e = rw (next-record, e)
+      run-unformed e = rw (listed-rest b i h [], e)
 
-      pub run-other : (origin n count b i ≡ own.0 → ⊥) → own_run n own k (drop i (records count b)) ≡ false
+      pub run-other : (origin n b i ≡ own.0 → ⊥) → own_run n own k (drop i (map decode b)) ≡ false
       unfolding own_run
       run-other e =
-          rw (next-record, ne_eqb (this n count b i).origin.0 own.0 (λ q. e (sym (origin-at n count b i) ∙ q)), and-false)
+          rw (listed-rest b i h [], ne_eqb (this n b i).origin.0 own.0 (λ q. e (sym (origin-at n b i) ∙ q)), and-false)
 
-      pub run-unnumbered : (number (this n count b i) ≡ k + 1 → ⊥) → own_run n own k (drop i (records count b)) ≡ false
+      pub run-unnumbered : (number (this n b i) ≡ k + 1 → ⊥) → own_run n own k (drop i (map decode b)) ≡ false
       unfolding own_run
-      run-unnumbered e = rw (next-record, ne_eqb (number (this n count b i)) (k + 1) e, and-false)
+      run-unnumbered e = rw (listed-rest b i h [], ne_eqb (number (this n b i)) (k + 1) e, and-false)
 
       pub run_more :
-          well_formed n (this n count b i) ≡ true
-          → origin n count b i ≡ own.0
-          → number (this n count b i) ≡ k + 1
-          → own_run n own k (drop i (records count b)) ≡ own_run n own (k + 1) (drop (i + 1) (records count b))
+          well_formed n (this n b i) ≡ true
+          → origin n b i ≡ own.0
+          → number (this n b i) ≡ k + 1
+          → own_run n own k (drop i (map decode b)) ≡ own_run n own (k + 1) (drop (i + 1) (map decode b))
       unfolding own_run
       run_more w o e =
           rw (
-            next-record,
+            listed-rest b i h [],
             w,
-            eq-eqb (this n count b i).origin.0 own.0 (origin-at n count b i ∙ o),
-            eq-eqb (number (this n count b i)) (k + 1) e,
+            eq-eqb (this n b i).origin.0 own.0 (origin-at n b i ∙ o),
+            eq-eqb (number (this n b i)) (k + 1) e,
           )
-          (ap (λ (z : ℕ). own_run n own z (drop (i + 1) (records count b))) (sym (add-one k)))
+          (ap (λ (z : ℕ). own_run n own z (drop (i + 1) (map decode b))) (sym (add-one k)))
 
-  pub run-all : (i k : ℕ) → count ≤ i → own_run n own k (drop i (records count b)) ≡ true
+  pub run-all : (i k : ℕ) → length b ≤ i → own_run n own k (drop i (map decode b)) ≡ true
   unfolding own_run
-  run-all i k h = rw (drop_of_length-le (records count b) {i = i} (rw length-records h))
+  run-all i k h = rw (listed-done b i h)
 
 -- ---- the last of some writes, from the end backwards
 same_end : (a b : List Record) (x y : Record) → same_records (a ++ x ∷ []) (b ++ y ∷ []) ≡ (same_records a b && same_records (x ∷ []) (y ∷ []))
@@ -120,71 +82,55 @@ last-both a b x y =
     rw (length-append, length-append, e, drop-append-le (length b - length a) b (y ∷ []) l)
     (same_end a (drop (length b - length a) b) x y)
 
-pub last_none : (b : List Record) → is_last [] b ≡ true
+last_none : (b : List Record) → is_last [] b ≡ true
 unfolding is_last same_records
 last_none b = let e : length b - 0 ≡ length b = omega arith in rw (e, drop-length b)
 
-pub none_last : (a : List Record) → 0 < length a → is_last a [] ≡ false
+none_last : (x : Record) (a : List Record) → is_last (x ∷ a) [] ≡ false
 unfolding is_last same_records
-none_last [] h = absurd (omega arith)
-none_last (x ∷ a) h = rw (drop-nil (0 - suc (length a)))
+none_last x a = rw (drop-nil (0 - suc (length a)))
 
--- a record's part has its size
-pub part-size : (b : List ℕ) (k : ℕ) → record_size * (k + 1) ≤ length b → length (take record_size (drop (record_size * k) b)) ≡ record_size
-part-size b k h = length-take-le record_size (drop (record_size * k) b) (rw length-drop (omega arith))
+-- whether the records of a log are the last of the own writes of a history
+abbrev pub Last : ServerId → List (List ℕ) → List (List ℕ) → Bool
+Last own log history = is_last (map decode log) (writes_of own (map decode history))
 
--- record k behind k records, whatever stands behind it
-records-more : (k : ℕ) (b : List ℕ) → records (k + 1) b ≡ records k b ++ this 0 0 b k ∷ []
-records-more k b =
-    let h : k < k + 1 = omega arith in
-    let l = length-records (k + 1) b in
-    sym (take_all (k + 1) (records (k + 1) b) (omega arith))
-    ∙ take_more (records (k + 1) b) k (decode []) (omega arith)
-    ∙ rw (records-take k (k + 1) b (omega arith), record-at (k + 1) b k h)
+module _ (own : ServerId) where
+  -- none is left to compare
+  pub left-none : (log history : List (List ℕ)) → length log ≡ 0 → Last own log history ≡ true
+  left-none [] history e = last_none (writes_of own (map decode history))
+  left-none (x ∷ log) history e = absurd (omega arith)
 
-module _ (log history : List ℕ) (own : ServerId) where
-  abbrev Left : ℕ → ℕ → Bool
-  Left l i = is_last (records l log) (writes_of own (records i history))
+  -- or none to compare with
+  pub none_held : (log history : List (List ℕ)) → length history ≡ 0 → Last own log history ≡ eqb (length log) 0
+  unfolding writes_of keep
+  none_held [] [] e = last_none []
+  none_held (y ∷ log) [] e = none_last (decode y) (map decode log) ∙ sym (ne_eqb (suc (length log)) 0 (λ q. omega arith))
+  none_held log (x ∷ history) e = absurd (omega arith)
 
-  -- all are compared, or none is left to compare with
-  pub left-none : (i : ℕ) → Left 0 i ≡ true
-  unfolding records pieces
-  left-none i = last_none (writes_of own (records i history))
+-- one more of the history
+module _ (own : ServerId) (log history : List (List ℕ)) (x : List ℕ) where
+  -- a write of another origin is passed
+  pub left_other : (get_or x 0 0 ≡ own.0 → ⊥) → Last own log (history ++ x ∷ []) ≡ Last own log history
+  unfolding decode
+  left_other e =
+      rw (
+        listed-push history x,
+        writes_of-append own (map decode history) (decode x ∷ []),
+        writes_of-other own (decode x) (λ q. e (sym (from_one 0 x) ∙ q)),
+        append-nil,
+      )
 
-  pub none_left : (l : ℕ) → 0 < l → Left l 0 ≡ false
-  unfolding records pieces writes_of keep
-  none_left l h = none_last (records l log) (rw length-records h)
-
-  module _ (i : ℕ) where
-    -- a write of another origin is passed
-    pub left_other : (l : ℕ) → (get_or history (record_size * i) 0 ≡ own.0 → ⊥) → Left l (i + 1) ≡ Left l i
-    left_other l e =
-        rw (
-          records-more i history,
-          writes_of-append own (records i history) (this 0 0 history i ∷ []),
-          writes_of-other own (this 0 0 history i) (λ q. e (sym (origin-at 0 0 history i) ∙ q)),
-          append-nil,
-        )
-
-    -- an own write is compared
-    module _ (l : ℕ) (e : get_or history (record_size * i) 0 ≡ own.0) (a : AllBelow 256 log) (b : AllBelow 256 history) where
-      pub left-own :
-          record_size * (l + 1) ≤ length log
-          → record_size * (i + 1) ≤ length history
-          → Left (l + 1) (i + 1) ≡ (Left l i && same (take record_size (drop (record_size * l) log)) (take record_size (drop (record_size * i) history)))
-      unfolding records pieces
-      left-own h k =
-          let x = length-drop (record_size * l) log in
-          let y = length-drop (record_size * i) history in
-          let s =
-          records-same 1 (drop (record_size * l) log) (drop (record_size * i) history) (omega arith) (omega arith)
-          (below-drop (record_size * l) log a)
-          (below-drop (record_size * i) history b) in
-          rw (
-            records-more i history,
-            records-more l log,
-            writes_of-append own (records i history) (this 0 0 history i ∷ []),
-            writes_of-here own (this 0 0 history i) (origin-at 0 0 history i ∙ e),
-            last-both (records l log) (writes_of own (records i history)) (this 0 0 log l) (this 0 0 history i),
-          )
-          (ap (λ (t : Bool). Left l i && t) s)
+  -- an own write is compared
+  pub left-own :
+      (y : List ℕ)
+      → get_or x 0 0 ≡ own.0
+      → Last own (log ++ y ∷ []) (history ++ x ∷ []) ≡ (Last own log history && same_records (decode y ∷ []) (decode x ∷ []))
+  unfolding decode
+  left-own y e =
+      rw (
+        listed-push history x,
+        listed-push log y,
+        writes_of-append own (map decode history) (decode x ∷ []),
+        writes_of-here own (decode x) (from_one 0 x ∙ e),
+        last-both (map decode log) (writes_of own (map decode history)) (decode y) (decode x),
+      )

@@ -1,7 +1,8 @@
 -- A consistent state, test by test, in the forms that loops need. No public call is stated by these.
 -- Assumes nothing.
-use Rattle.std.specs.Prelude.{ℕ, suc, ◌+◌, ◌-◌, ◌*◌, ◌≤◌, ◌<◌, List, [], ◌∷◌, map, true, false, ◌&&◌, cond, Bool, take, drop, length, get_or, leb, eqb}
-use Rattle.notes.specs.Index.{servers}
+use Rattle.std.specs.Prelude.{◌≡◌, ℕ, suc, ◌+◌, ◌-◌, ◌*◌, ◌≤◌, ◌<◌, List, [], ◌∷◌, map, true, ◌&&◌, cond, Bool, take, drop, length, get_or, leb, eqb, Option, Some, None}
+use Rattle.notes.specs.Bytes.{Field, field, pieces}
+use Rattle.notes.specs.Index.{servers, server_ok}
 use Rattle.notes.specs.Record.{record_size, well_formed, number}
 use Rattle.notes.specs.declared.index.ServerId.{ServerId}
 use Rattle.notes.specs.Lists.{every}
@@ -10,17 +11,11 @@ use Rattle.notes.specs.declared.record.Record.{Record}
 use Rattle.notes.specs.Message.{history_most}
 use Rattle.rules.specs.Writes.{tally, in_turn, writes_of, count_of}
 use Rattle.rules.specs.declared.state.State.{State}
-use Rattle.rules.specs.Image.{history_size, image_size, log_most, checkpoint_count, log_count}
+use Rattle.rules.specs.Image.{image_size, log_most, checkpoint_at, log_at, n_field, own_field, checkpoint_offset, log_offset, total_field, spare, checkpoint_count, log_count}
 use Rattle.rules.specs.Sound.{v_counts, is_first, is_last, reads_ok}
-use Rattle.memory.specs.declared.raw.Tally.{Tally}
+use Rattle.notes.specs.declared.vector.Vector.{Vector}
 
 -- ---- what the tests ask for
-
--- so many records of N servers stand in these bytes, and a history can hold them
-pub record Walkable (n count : ℕ) (b : List ℕ) : Type 0 where
-  pub long : record_size * count ≤ length b
-  pub held : count ≤ history_most
-  pub few : n ≤ servers
 
 -- an image has all of its bytes, and counts of at most 256 and 64
 pub record Sized (i : List ℕ) : Type 0 where
@@ -34,18 +29,40 @@ pub record Limits (n : ℕ) (own : ServerId) (i : List ℕ) : Type 0 where
   pub few : n ≤ servers
   pub low : own.0 < servers
 
--- both buffers are large enough for what their counts say
-pub record Buffers (s : State) (h i : List ℕ) : Type 0 where
-  pub history : history_size ≤ length h
-  pub held : s.held ≤ history_most
-  pub image : Sized i
+-- these are the bytes of the writes that a state of at most eight servers counts, and a history can hold them
+pub record Held (s : State) (history : List (List ℕ)) : Type 0 where
+  pub held : length history ≡ s.held
+  pub most : length history ≤ history_most
+  pub few : s.n ≤ servers
+
+-- ---- a header, number by number
+
+-- where the spare bytes stand, as one number
+abbrev pub spare_field : Field
+spare_field = record { at = total_field.at + total_field.size; size = spare }
+
+unfoldable pub header_test : ℕ → ServerId → List ℕ → Bool
+header_test n own i =
+    server_ok n own
+    && eqb (get_or i n_field.at 0) n
+    && eqb (get_or i own_field.at 0) own.0
+    && leb (checkpoint_count i) history_most
+    && eqb (field checkpoint_offset i) checkpoint_at
+    && leb (log_count i) log_most
+    && eqb (field log_offset i) log_at
+    && eqb (field total_field i) image_size
+    && eqb (field spare_field i) 0
+
+-- these are so many records of a history's bytes
+pub record Shown (held : ℕ) (h : List ℕ) (history : List (List ℕ)) : Type 0 where
+  pub long : record_size * held ≤ length h
+  pub shown : history ≡ pieces record_size held h
 
 -- ---- records in turn
 
--- each record is well formed and next in turn, and their counts; or no counts
-unfoldable pub walk_of : ℕ → List Record → Tally
-walk_of n rs =
-    cond (every (well_formed n) rs && in_turn rs) (record { ok = true; counts = tally rs }) (record { ok = false; counts = zeros })
+-- the counts of records that are each well formed and next in turn; of others there are none
+unfoldable pub walk_of : ℕ → List Record → Option Vector
+walk_of n rs = cond (every (well_formed n) rs && in_turn rs) (Some (tally rs)) None
 
 -- ---- up
 

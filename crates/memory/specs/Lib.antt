@@ -1,2 +1,3 @@
 -- The files of definitions.
 pub mod Forms
+pub mod Lent

@@ -5,7 +5,7 @@ use notes::record::Record;
 pub mod raw;
 
 // What an image's header says: how many records its checkpoint and its log hold.
-#[derive(Clone, Copy)]
+#[derive(Clone, Copy, PartialEq, Eq)]
 pub struct Image {
     pub checkpoint: usize,
     pub log: usize,

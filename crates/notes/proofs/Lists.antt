@@ -1,17 +1,22 @@
 -- Laws of lists that loops and layouts need, each once.
 -- Assumes nothing.
 use Prim.Native.Nat.{ℕ, zero, suc, ◌+◌, ◌-◌, ◌<◌, ◌≤◌}
-use mathlib.Core.Bool.{Bool, true, false, ◌&&◌, ◌||◌, and_assoc, or_assoc, and-true, or-false, and-false}
-use mathlib.Core.List.{List, [], ◌∷◌, ◌++◌, flat_map, zip_with, append_assoc, append-nil}
+use mathlib.Core.Bool.{Bool, true, false, cond, true≢false, ◌&&◌, ◌||◌, and_assoc, or_assoc, and-true, or-false, and-false}
+use mathlib.Core.List.{List, [], ◌∷◌, ◌++◌, flat_map, zip_with, foldr, append_assoc, append-nil}
 use mathlib.Core.Path.{◌≡◌, refl, ap, sym, ◌∙◌}
 use native.Mathlib.Nat.{add-zero, zero-add}
 use native.Mathlib.Numerals.{add-one}
 use native.Mathlib.Omega.{arith}
 use borrow.Author.Tests.{eqb-true, eq-eqb, ne_eqb, le-ltb}
-use lib.Dec.{ltb}
+use lib.Dec.{ltb, eqb}
 use lib.ListN.{length, get_or, take, drop, set, length-drop, drop_of_length-le}
 use lib.Seq.{take-suc, take_all, take-length, drop-drop, sets, sets-eq}
 use borrow.Rule.Slice.PartMut.{put_mid}
+use Rattle.std.specs.Prelude.{Option, Some}
+use Rattle.std.proofs.Common.{Ordering}
+use Rattle.std.specs.declared.cmp.Ordering.TheVariants.{Less, Equal, Greater}
+use Rattle.std.specs.Ordering.{is_lt, is_some_and, nat_cmp, partial_ordering_then}
+use Rattle.std.specs.List.{fold, list_all, list_any, zip}
 use Rattle.notes.specs.Lists.{every, any, same, above}
 
 -- ---- one element more
@@ -37,6 +42,13 @@ module _ {A : Type 0} where
       go (x ∷ z) [] i h k = absurd (omega arith)
       go (x ∷ z) (y ∷ o) zero h k = refl
       go (x ∷ z) (y ∷ o) (suc i) h k = ap (λ (l : List A). x ∷ l) (go z o i (omega arith) (omega arith))
+
+  -- what stands at the place of the next store
+  pub copied-at : (z o : List A) (i : ℕ) (d : A) → i ≤ length z → i ≤ length o → get_or (take i z ++ drop i o) i d ≡ get_or o i d
+  copied-at z o zero d h k = refl
+  copied-at [] o (suc i) d h k = absurd (omega arith)
+  copied-at (x ∷ z) [] (suc i) d h k = absurd (omega arith)
+  copied-at (x ∷ z) (y ∷ o) (suc i) d h k = copied-at z o i d (omega arith) (omega arith)
 
   -- and all of it
   pub copied_all : (z o : List A) (i : ℕ) → length z ≤ i → length o ≤ i → take i z ++ drop i o ≡ z
@@ -79,11 +91,6 @@ module _ {A : Type 0} where
     every_append [] b = refl
     every_append (x ∷ a) b = rw (every_append a b, and_assoc)
 
-    pub any_append : (a b : List A) → any p (a ++ b) ≡ (any p a || any p b)
-    unfolding any
-    any_append [] b = refl
-    any_append (x ∷ a) b = rw (any_append a b, or_assoc)
-
     pub every_more :
         (l : List A) (i : ℕ) (d : A)
         → i < length l
@@ -91,12 +98,26 @@ module _ {A : Type 0} where
     unfolding every
     every_more l i d h = rw (take_more l i d h, every_append, and-true)
 
-    pub any-more :
-        (l : List A) (i : ℕ) (d : A)
-        → i < length l
-        → any p (take (i + 1) l) ≡ (any p (take i l) || p (get_or l i d))
+    -- ---- as std has them: `all`, `any`, and folds that do not stop
+    pub every-all : (l : List A) → list_all p l ≡ every p l
+    unfolding every
+    every-all [] = refl
+    every-all (x ∷ l) = rw (every-all l)
+
+    pub any-some : (l : List A) → list_any p l ≡ any p l
     unfolding any
-    any-more l i d h = rw (take_more l i d h, any_append, or-false)
+    any-some [] = refl
+    any-some (x ∷ l) = rw (any-some l)
+
+    pub every-fold : (l : List A) (b : Bool) → fold (λ b x. b && p x) b l ≡ (b && every p l)
+    unfolding every
+    every-fold [] b = sym (and-true b)
+    every-fold (x ∷ l) b = every-fold l (b && p x) ∙ rw and_assoc
+
+    pub any-fold : (l : List A) (b : Bool) → fold (λ b x. b || p x) b l ≡ (b || any p l)
+    unfolding any
+    any-fold [] b = sym (or-false b)
+    any-fold (x ∷ l) b = any-fold l (b || p x) ∙ rw or_assoc
 
     -- one that fails
     pub every-fails : (l : List A) (i : ℕ) (d : A) → i < length l → p (get_or l i d) ≡ false → every p l ≡ false
@@ -150,6 +171,36 @@ pub above-last : (x y : ℕ) → above (x ∷ []) (y ∷ []) ≡ ltb y x
 unfolding above
 above-last x y = rw (and-false, or-false)
 
+eqb-comm : (x y : ℕ) → eqb x y ≡ eqb y x
+eqb-comm x y = go (eqb y x) refl
+  where
+    go : (t : Bool) → eqb y x ≡ t → eqb x y ≡ t
+    go true e = eq-eqb x y (sym (eqb-true y x e))
+    go false e = ne_eqb x y (λ q. absurd (true≢false (sym (eq-eqb y x (sym q)) ∙ e)))
+
+-- a derived order that compares these numbers first, and goes on where they are equal
+pub less-first :
+    (x y : ℕ) (rest : Option Ordering)
+    → is_some_and is_lt (partial_ordering_then (Some (nat_cmp y x)) rest) ≡ (ltb y x || eqb x y && is_some_and is_lt rest)
+less-first x y rest = go (ltb y x) refl
+  where
+    go : (t : Bool) → ltb y x ≡ t → is_some_and is_lt (partial_ordering_then (Some (nat_cmp y x)) rest) ≡ (ltb y x || eqb x y && is_some_and is_lt rest)
+    go true e = rw e
+    go false e = rw (e, eqb-comm x y) (tie (eqb y x))
+      where
+        tie : (u : Bool) → is_some_and is_lt (partial_ordering_then (Some (cond u Equal Greater)) rest) ≡ (u && is_some_and is_lt rest)
+        tie true = refl
+        tie false = refl
+
+-- and one that ends with them
+pub less-last : (x y : ℕ) → is_some_and is_lt (Some (nat_cmp y x)) ≡ above (x ∷ []) (y ∷ [])
+less-last x y = less (ltb y x) (eqb y x) ∙ sym (above-last x y)
+  where
+    less : (t u : Bool) → is_lt (cond t Less (cond u Equal Greater)) ≡ t
+    less true u = refl
+    less false true = refl
+    less false false = refl
+
 -- ---- two lists, position by position
 module _ {A B C : Type 0} (f : A → B → C) where
   pub length-zip_with : (v : List A) (w : List B) → length v ≡ length w → length (zip_with f v w) ≡ length v
@@ -168,6 +219,18 @@ module _ {A B C : Type 0} (f : A → B → C) where
   get_or-zip_with (x ∷ v) [] i d e c h k = absurd (omega arith)
   get_or-zip_with (x ∷ v) (y ∷ w) zero d e c h k = refl
   get_or-zip_with (x ∷ v) (y ∷ w) (suc i) d e c h k = get_or-zip_with v w i d e c (omega arith) (omega arith)
+
+-- the pairs tested are the tests of the pairs
+pub any-zip : {A B : Type 0} (f : A → B → Bool) (v : List A) (w : List B) → any (λ p. f p.0 p.1) (zip v w) ≡ any (λ t. t) (zip_with f v w)
+unfolding any zip_with
+any-zip f [] w = refl
+any-zip f (x ∷ v) [] = refl
+any-zip f (x ∷ v) (y ∷ w) = rw (any-zip f v w)
+
+-- std's sum
+pub sum-fold : (l : List ℕ) (a : ℕ) → fold (λ s x. s + x) a l ≡ a + foldr ◌+◌ 0 l
+sum-fold [] a = omega arith
+sum-fold (x ∷ l) a = rw (sum-fold l (a + x)) (omega arith)
 
 -- ---- parts that are lent
 -- b in place of so many bytes from k on, as a callee that is lent `&mut o[k..k + n]` leaves it

@@ -1,6 +1,6 @@
 -- Laws of messages: what a right one is, in the form that code tests, and both round trips.
 -- Assumes nothing.
-use Prim.Native.Nat.{ℕ, ◌+◌, ◌-◌, ◌*◌, ◌/◌, ◌%◌, ◌<◌, ◌≤◌}
+use Prim.Native.Nat.{ℕ, ◌+◌, ◌*◌, ◌/◌, ◌%◌, ◌<◌, ◌≤◌}
 use mathlib.Core.Bool.{Bool, true, false, ◌&&◌, and-true, and-false}
 use mathlib.Core.List.{List, [], ◌∷◌, ◌++◌}
 use mathlib.Core.Path.{◌≡◌, refl, ap, sym, ◌∙◌, subst}
@@ -9,7 +9,7 @@ use native.Mathlib.Omega.{arith}
 use borrow.Author.Tests.{ltb-true, leb-true, eqb-true, lt-ltb, le-ltb, le-leb, eq-eqb}
 use lib.Dec.{leb}
 use lib.Seq.{sets}
-use lib.ListN.{length, get_or, drop, length-drop, length-append, set}
+use lib.ListN.{length, get_or, drop, length-drop, length-append}
 use Rattle.notes.specs.Lists.{every}
 use Rattle.notes.specs.Index.{servers, server_ok}
 use Rattle.notes.specs.Bytes.{field, to_bytes}
@@ -215,17 +215,22 @@ module _ (m : List ℕ) (h : AllBelow 256 m) where
   pub check-passed :
       header_ok m ≡ true
       → every (well_formed (get_or m 0 0)) (brought m) ≡ true
-      → check m ≡ done (get_or m 0 0 ∷ get_or m 1 0 ∷ (length m - header_size) / record_size ∷ [])
+      → check m ≡ done (get_or m 0 0 ∷ get_or m 1 0 ∷ length (body m) / record_size ∷ [])
   unfolding check
   check-passed e w =
-      rw (message-ok m h, e, n-at m, w, ap (λ (s : ServerId). s.0) (sender-at m), length-records, length-drop)
+      rw (message-ok m h, e, n-at m, w, ap (λ (s : ServerId). s.0) (sender-at m), length-records)
 
 -- ---- a message stored piece by piece
 pub header-stored :
     (n : ℕ) (s : ServerId) (count : ℕ) (l : List ℕ)
-    → sets (sets (sets (set (set l 0 n) 1 s.0) 2 (to_bytes 2 count)) 4 (to_bytes 2 header_size)) 6 (to_bytes 2 (message_size count)) ≡ sets l 0 (header_of n s count)
+    → n < 256
+    → s.0 < 256
+    → sets (sets (sets (sets (sets l 0 (to_bytes 1 n)) 1 (to_bytes 1 s.0)) 2 (to_bytes 2 count)) 4 (to_bytes 2 header_size)) 6 (to_bytes 2 (message_size count)) ≡ sets l 0 (header_of n s count)
 unfolding header_of to_bytes
-header-stored n s count l = refl
+header-stored n s count l hn hs =
+    let x : n % 256 ≡ n = omega arith in
+    let y : s.0 % 256 ≡ s.0 = omega arith in
+    rw (x, y) refl
 
 length-header : (n : ℕ) (s : ServerId) (count : ℕ) → length (header_of n s count) ≡ header_size
 unfolding header_of to_bytes

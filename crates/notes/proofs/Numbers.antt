@@ -1,15 +1,16 @@
 -- Laws of numbers as bytes, each over the width.
 -- Assumes nothing.
 use Prim.Native.Nat.{ℕ, zero, suc, ◌+◌, ◌*◌, ◌/◌, ◌%◌, ◌^◌, ◌<◌, ◌≤◌}
-use mathlib.Core.List.{List, [], ◌∷◌, ◌++◌}
-use mathlib.Core.Path.{◌≡◌, refl, ap, sym, ◌∙◌}
-use native.Mathlib.Nat.{zero-add, add-zero, suc-add, mul_assoc, pow-zero, pow-succ', div-one, mod-lt, mod-eq_of_lt, div-add-mod, mul-add-mod_self_left, div-div-eq-div-mul}
+use mathlib.Core.List.{List, [], ◌∷◌}
+use mathlib.Core.Path.{◌≡◌, refl, ap, ap₂, sym, ◌∙◌}
+use native.Mathlib.Nat.{zero-add, add-zero, suc-add, mul_assoc, mul_comm, pow-zero, pow-succ', div-one, div-div-eq-div-mul}
 use native.Mathlib.Numerals.{add-one}
 use native.Mathlib.Omega.{arith}
 use lib.ListN.{length, get_or, take, drop, length-take, length-drop}
-use lib.Seq.{sets, get_or-drop, take-nil, drop-nil, drop-cons}
+use lib.Seq.{get_or-drop, take-nil, drop-nil, drop-cons, take-take}
+use Rattle.std.specs.Int.{byte_at, byte_worth, bytes_low_first, sum_through}
+use Rattle.std.specs.Prelude.{slice_index}
 use Rattle.notes.specs.Bytes.{from_bytes, to_bytes}
-use Rattle.notes.proofs.Lists.{sets-append}
 
 -- each number of a list is below n, and so is the zero past its end
 abbrev pub AllBelow : ℕ → List ℕ → Type 0
@@ -88,45 +89,6 @@ from-split (suc a) b i l =
     rw (suc-add, from_cons (a + b) i l, from-split a b (i + 1) l, from_cons a i l, pow-succ', e)
     (omega (arith, mul_assoc 256 (256 ^ a) (from_bytes (take b (drop (i + 1 + a) l)))))
 
--- what is left of n over multiples of 256 m: its lowest byte, and the bytes above it
-module _ (m n : ℕ) (some : 0 < m) where
-  parts : 256 * (m * (n / (256 * m))) + n % (256 * m) ≡ n
-  parts = omega (arith, div-add-mod n (256 * m), mul_assoc 256 m (n / (256 * m)))
-
-  lowest : n % (256 * m) % 256 ≡ n % 256
-  lowest = sym (mul-add-mod_self_left 256 (m * (n / (256 * m))) (n % (256 * m))) ∙ ap (λ (k : ℕ). k % 256) parts
-
-  above : n % (256 * m) / 256 ≡ n / 256 % m
-  above =
-      let e : n / 256 ≡ m * (n / (256 * m)) + n % (256 * m) / 256 = omega (arith, parts) in
-      let s : n % (256 * m) / 256 < m = omega (arith, mod-lt n {m = 256 * m} (omega arith)) in
-      sym (rw (e, mul-add-mod_self_left) (mod-eq_of_lt s))
-
-some-power : (a : ℕ) → 0 < 256 ^ a
-some-power zero = omega arith
-some-power (suc a) = rw pow-succ' (omega (arith, some-power a))
-
-pub to-split : (a b n : ℕ) → to_bytes (a + b) n ≡ to_bytes a (n % 256 ^ a) ++ to_bytes b (n / 256 ^ a)
-unfolding to_bytes
-to-split zero b n = rw (zero-add, div-one)
-to-split (suc a) b n =
-    rw (
-      suc-add,
-      pow-succ',
-      lowest (256 ^ a) n (some-power a),
-      above (256 ^ a) n (some-power a),
-      ← div-div-eq-div-mul n 256 (256 ^ a),
-      to-split a b (n / 256),
-    )
-
--- the lower bytes stored, then the upper ones behind them
-pub split-stored :
-    (a b : ℕ) (l : List ℕ) (i n : ℕ)
-    → sets (sets l i (to_bytes a (n % 256 ^ a))) (i + a) (to_bytes b (n / 256 ^ a)) ≡ sets l i (to_bytes (a + b) n)
-split-stored a b l i n =
-    let lower = to_bytes a (n % 256 ^ a) in
-    rw (to-split a b n, sets-append l lower (to_bytes b (n / 256 ^ a)) i, length-to_bytes a (n % 256 ^ a)) refl
-
 -- ---- the bytes of the number that stands at a place
 pub part-back :
     (w i : ℕ) (b : List ℕ)
@@ -148,3 +110,34 @@ pub from-agree :
     → from_bytes (take w (drop i a)) ≡ from_bytes (take w (drop i b))
 from-agree a b e zero i = refl
 from-agree a b e (suc w) i = rw (from_cons w i a, from_cons w i b, e i, from-agree a b e w (i + 1))
+
+-- ---- as std has them: any width's bytes, the lowest first
+
+-- what `from_le_bytes` sums up of suc w bytes
+pub from-le : (w : ℕ) (b : List ℕ) → sum_through (λ i. byte_worth i (slice_index b i)) w ≡ from_bytes (take (suc w) b)
+unfolding from_bytes
+from-le zero b = sym (from_one 0 b)
+from-le (suc w) b =
+    let e : suc (suc w) ≡ suc w + 1 = omega arith in
+    let last : 0 + suc w ≡ suc w = omega arith in
+    rw (e, from-split (suc w) 1 0 b, last, from_one (suc w) b, ← from-le w b, mul_comm (get_or b (suc w) 0) (256 ^ suc w))
+
+-- of the first suc w of some bytes
+pub read-le : (w : ℕ) (b p : List ℕ) → p ≡ take (suc w) b → sum_through (λ i. byte_worth i (slice_index p i)) w ≡ from_bytes (take (suc w) b)
+read-le w b p e = from-le w p ∙ ap from_bytes (ap (take (suc w)) e ∙ take-take (suc w) (suc w) b (omega arith))
+
+-- what `to_le_bytes` gives of w bytes, from byte i on
+low-first : (i w n : ℕ) → bytes_low_first i w n ≡ to_bytes w (n / 256 ^ i)
+unfolding to_bytes
+low-first i zero n = refl
+low-first i (suc w) n = ap₂ ◌∷◌ (here i) (low-first (suc i) w n ∙ ap (to_bytes w) (above i))
+  where
+    here : (i : ℕ) → byte_at i n ≡ n / 256 ^ i % 256
+    here zero = rw (pow-zero, div-one)
+    here (suc i) = refl
+
+    above : (i : ℕ) → n / 256 ^ suc i ≡ n / 256 ^ i / 256
+    above i = rw (pow-succ', mul_comm 256 (256 ^ i)) (sym (div-div-eq-div-mul n (256 ^ i) 256))
+
+pub to-le : (w n : ℕ) → bytes_low_first 0 w n ≡ to_bytes w n
+to-le w n = low-first 0 w n ∙ rw (pow-zero, div-one)

@@ -1,11 +1,12 @@
 -- Laws of bytes in pieces of one size.
 -- Assumes nothing.
-use Prim.Native.Nat.{ℕ, zero, suc, ◌+◌, ◌*◌, ◌<◌}
+use Prim.Native.Nat.{ℕ, zero, suc, ◌+◌, ◌*◌, ◌<◌, ◌≤◌}
 use mathlib.Core.List.{List, [], ◌∷◌, map, flat_map}
 use mathlib.Core.Path.{◌≡◌, refl, ap}
 use native.Mathlib.Omega.{arith}
 use lib.ListN.{length, get_or, take, drop, length-drop, length-take, length-append, take-append-drop}
 use lib.Seq.{take_at, drop_at, drop-drop}
+use Rattle.std.specs.Simd.{first_chunks}
 use Rattle.notes.specs.Bytes.{pieces}
 use Rattle.notes.proofs.Numbers.{AllBelow, below-take, below-drop}
 
@@ -31,6 +32,18 @@ pub length-flat_map :
 unfolding flat_map
 length-flat_map w bytes [] h = omega arith
 length-flat_map w bytes (a ∷ l) h = rw length-append (omega (arith, h.0, length-flat_map w bytes l h.1))
+
+-- pieces are what std calls chunks; the first k of them
+pub chunks-pieces : (w k : ℕ) (b : List ℕ) → first_chunks w k b ≡ pieces w k b
+unfolding pieces
+chunks-pieces w zero b = refl
+chunks-pieces w (suc k) b = ap (λ (l : List (List ℕ)). take w b ∷ l) (chunks-pieces w k (drop w b))
+
+pub first-pieces : (w k n : ℕ) (b : List ℕ) → k ≤ n → take k (first_chunks w n b) ≡ pieces w k b
+unfolding pieces
+first-pieces w zero n b h = refl
+first-pieces w (suc k) zero b h = absurd (omega arith)
+first-pieces w (suc k) (suc n) b h = ap (λ (l : List (List ℕ)). take w b ∷ l) (first-pieces w k n (drop w b) (omega arith))
 
 module _ (w : ℕ) where
   pub length-pieces : (k : ℕ) (b : List ℕ) → length (pieces w k b) ≡ k

@@ -1,19 +1,27 @@
 -- Reading a message to its end gives exactly its writes, in order.
 -- Assumes nothing.
 use Prim.Native.Nat.{ℕ, zero, suc, ◌+◌, ◌-◌, ◌*◌, ◌/◌, ◌<◌, ◌≤◌}
-use mathlib.Core.Bool.{Bool, true, false, cond, true≢false}
+use mathlib.Core.Bool.{Bool, true, false, cond}
 use mathlib.Core.List.{List, [], ◌∷◌}
-use mathlib.Core.Path.{◌≡◌, refl, ap, sym, ◌∙◌}
+use mathlib.Core.Path.{◌≡◌, refl, sym, ◌∙◌}
 use native.Mathlib.Omega.{arith}
 use borrow.Author.Tests.{leb-true, leb-false, lt-leb, le-leb}
-use lib.ListN.{length, get_or, take, drop, length-drop}
+use lib.ListN.{length, take, drop, length-drop}
 use lib.Seq.{drop-drop}
+use Rattle.std.specs.Prelude.{Some, None, OnSome, Ok, Err}
+use Rattle.std.proofs.lemmas.Iterator.{YieldsList}
+use Rattle.std.proofs.lemmas.Iterator.Consumers.{YieldsList-from_shown}
+use Rattle.notes.specs.Reply.{done, refused}
 use Rattle.notes.specs.Record.{record_size, decode, records}
 use Rattle.notes.specs.Bytes.{pieces}
-use Rattle.notes.specs.Message.{header_size, body, brought, message_ok, check, first_place, whole_at, item, read_at, place_after, left_from, Reads}
+use Rattle.notes.specs.Message.{header_size, body, brought, message_ok, check, first_place, whole_at, begin, read_at, place_after, left_from, Reads, unread, Moves, checked_reply, refusal_reply}
+use Rattle.notes.specs.declared.message.Header.{Header}
+use Rattle.notes.specs.declared.message.Refusal.{Refusal}
+use Rattle.notes.specs.declared.reader.Reader.{Reader}
 use Rattle.notes.specs.declared.record.Record.{Record}
-use Rattle.notes.proofs.Records.{length-records, record-at}
+use Rattle.notes.proofs.Records.{length-records}
 use Rattle.notes.proofs.Messages.{right-suits}
+use Rattle.notes.proofs.Answers.{update-right, refused-wrong}
 
 -- ---- at a place
 pub none-there : (m : List ℕ) (at : ℕ) → length m < at + record_size → whole_at m at ≡ false
@@ -23,11 +31,11 @@ pub one-there : (m : List ℕ) (at : ℕ) → at + record_size ≤ length m → 
 one-there m at h = le-leb record_size (length m - at) (omega arith)
 
 module _ (m : List ℕ) (at : ℕ) where
-  pub read_found : whole_at m at ≡ true → read_at m at ≡ item true (take record_size (drop at m))
+  pub read_found : whole_at m at ≡ true → read_at m at ≡ Some (decode (take record_size (drop at m)))
   unfolding read_at
   read_found e = rw e
 
-  pub read_none : whole_at m at ≡ false → read_at m at ≡ item false []
+  pub read_none : whole_at m at ≡ false → read_at m at ≡ None
   unfolding read_at
   read_none e = rw e
 
@@ -45,22 +53,30 @@ module _ (m : List ℕ) where
   unfolding first_place
   first-right e = rw e
 
-  pub check-right : message_ok m ≡ true → (check m).number ≡ 0
-  unfolding check
-  check-right e = rw e
+  pub begin-right : message_ok m ≡ true → begin m ≡ done (header_size ∷ [])
+  unfolding begin
+  begin-right e = rw (e, first-right e)
 
   pub first-refused : message_ok m ≡ false → first_place m ≡ length m
   unfolding first_place
   first-refused e = rw e
 
-  pub check-refused : message_ok m ≡ false → (check m).number ≡ 6
+  pub begin-refused : message_ok m ≡ false → begin m ≡ refused 6
+  unfolding begin
+  begin-refused e = rw e
+
+  -- a check's answer says which
+  pub begin-passed : (h : Header) → checked_reply (Ok h) ≡ check m → done (header_size ∷ []) ≡ begin m
+  begin-passed h e = sym (begin-right (update-right m h e).0)
+
+  pub begin-checked : (r : Refusal) → checked_reply (Err r) ≡ check m → refusal_reply r ≡ begin m
   unfolding check
-  check-refused e = rw e
+  begin-checked r e = let wrong = refused-wrong m r e in e ∙ rw wrong (sym (begin-refused wrong))
 
 -- ---- to the end
 reads-records : (k : ℕ) (m : List ℕ) (at : ℕ) → length m ≡ at + record_size * k → Reads m at (records k (drop at m))
 unfolding Reads records pieces
-reads-records zero m at l = ap (λ x. x.found) (read_none m at (none-there m at (omega arith)))
+reads-records zero m at l = read_none m at (none-there m at (omega arith))
 reads-records (suc k) m at l =
     let e = one-there m at (omega arith) in
     (read_found m at e, rw (place_found m at e, drop-drop) (reads-records k m (at + record_size) (omega arith)))
@@ -75,22 +91,25 @@ reads-message m = go (message_ok m) refl
         let s = right-suits m e in
         let l : length m ≡ header_size + record_size * (length (body m) / record_size) = rw length-drop (omega arith) in
         rw (first-right m e) (reads-records (length (body m) / record_size) m header_size l)
-    go false e = rw (first-refused m e) (ap (λ x. x.found) (read_none m (length m) (none-there m (length m) (omega arith))))
+    go false e = rw (first-refused m e) (read_none m (length m) (none-there m (length m) (omega arith)))
 
 -- reading from a place has one outcome, and as many are left as it will find
 pub reads-one : (m : List ℕ) (at : ℕ) (ws vs : List Record) → Reads m at ws → Reads m at vs → ws ≡ vs
 unfolding Reads
 reads-one m at [] [] p q = refl
-reads-one m at [] (v ∷ vs) p (e, q) = absurd (true≢false (sym (ap (λ x. x.found) e) ∙ p))
-reads-one m at (w ∷ ws) [] (e, p) q = absurd (true≢false (sym (ap (λ x. x.found) e) ∙ q))
-reads-one m at (w ∷ ws) (v ∷ vs) (e, p) (d, q) = λ i. ap (λ x. x.write) (sym e ∙ d) i ∷ reads-one m (place_after m at) ws vs p q i
+reads-one m at [] (v ∷ vs) p (e, q) = cc
+reads-one m at (w ∷ ws) [] (e, p) q = cc
+reads-one m at (w ∷ ws) (v ∷ vs) (e, p) (d, q) =
+    let same : w ≡ v = cc in
+    let rest = reads-one m (place_after m at) ws vs p q in
+    cc
 
 pub reads-left : (m : List ℕ) (at : ℕ) (ws : List Record) → Reads m at ws → left_from m at ≡ length ws
 unfolding Reads
 reads-left m at [] p = go (whole_at m at) refl
   where
     go : (t : Bool) → whole_at m at ≡ t → left_from m at ≡ 0
-    go true q = absurd (true≢false (sym (ap (λ x. x.found) (read_found m at q)) ∙ p))
+    go true q = let found = read_found m at q in cc
     go false q = let l = leb-false record_size (length m - at) q in omega arith
 reads-left m at (w ∷ ws) (e, p) = go (whole_at m at) refl (reads-left m (place_after m at) ws p)
   where
@@ -99,21 +118,54 @@ reads-left m at (w ∷ ws) (e, p) = go (whole_at m at) refl (reads-left m (place
         let l = leb-true record_size (length m - at) q in
         let next = rw (place_found m at q) at r in
         omega arith
-    go false q r = absurd (true≢false (sym (ap (λ x. x.found) e) ∙ ap (λ x. x.found) (read_none m at q)))
+    go false q r = let none = read_none m at q in cc
 
--- record k of a message stands behind the header and the k records before it
-stands : (m : List ℕ) (k : ℕ) → k < length (brought m) → whole_at m (header_size + record_size * k) ≡ true
-stands m k h = let l = rw (length-records, length-drop) at h in one-there m (header_size + record_size * k) (omega arith)
+-- ---- a reader as an iterator
+one-less : (m : List ℕ) (at : ℕ) → whole_at m at ≡ true → left_from m at ≡ suc (left_from m (at + record_size))
+one-less m at q = let l = leb-true record_size (length m - at) q in omega arith
 
-pub read-record :
-    (m : List ℕ) (k : ℕ)
-    → k < length (brought m)
-    → read_at m (header_size + record_size * k) ≡ record { found = true; write = get_or (brought m) k (decode []) }
-read-record m k h =
-    let l : k < length (body m) / record_size = rw length-records at h in
-    read_found m (header_size + record_size * k) (stands m k h)
-    ∙ (λ i. record { found = true; write = (sym (rw drop-drop at (record-at (length (body m) / record_size) (body m) k l))) i })
+-- a record that is read is one fewer to come
+pub reads-down : (m : List ℕ) (at : ℕ) → OnSome (read_at m at) (left_from m (place_after m at) < left_from m at)
+reads-down m at = go (whole_at m at) refl
+  where
+    go : (t : Bool) → whole_at m at ≡ t → OnSome (read_at m at) (left_from m (place_after m at) < left_from m at)
+    go true q = rw (read_found m at q, place_found m at q) (omega (arith, one-less m at q))
+    go false q = rw (read_none m at q) tt
 
-pub place-record :
-    (m : List ℕ) (k : ℕ) → k < length (brought m) → place_after m (header_size + record_size * k) ≡ header_size + record_size * (k + 1)
-place-record m k h = place_found m (header_size + record_size * k) (stands m k h) ∙ omega arith
+unread-none : (s t : Reader) → Moves s None t → length (unread s) ≡ 0
+unread-none s t h = go (whole_at s.message.now s.at) refl
+  where
+    go : (b : Bool) → whole_at s.message.now s.at ≡ b → length (unread s) ≡ 0
+    go true q = let found = read_found s.message.now s.at q in let none = h.read in cc
+    go false q = let l = leb-false record_size (length s.message.now - s.at) q in rw length-records (omega arith)
+
+unread-some : (s : Reader) (w : Record) (t : Reader) → Moves s (Some w) t → unread s ≡ w ∷ unread t
+unfolding records pieces
+unread-some s w t h = go (whole_at s.message.now s.at) refl
+  where
+    go : (b : Bool) → whole_at s.message.now s.at ≡ b → unread s ≡ w ∷ unread t
+    go true q =
+        let m = s.message.now in
+        let found = read_found m s.at q in
+        let read = h.read in
+        let first : w ≡ decode (take record_size (drop s.at m)) = cc in
+        let place : t.at ≡ s.at + record_size = h.place ∙ place_found m s.at q in
+        let rest : unread t ≡ records (left_from m (s.at + record_size)) (drop (s.at + record_size) m) = rw (h.message, place) refl in
+        rw (rest, one-less m s.at q, first, drop-drop)
+    go false q = let none = read_none s.message.now s.at q in let found = h.read in cc
+
+-- a `for` over a reader goes over the records that are left
+pub reader-yields : (r : Reader) → YieldsList Moves (λ w. w) r (unread r)
+reader-yields r = YieldsList-from_shown Moves (λ w. w) unread unread-none unread-some r
+
+-- behind the header all that the message brings is left
+pub left-all : (m : List ℕ) → left_from m header_size ≡ length (brought m)
+left-all m = rw (length-records, length-drop)
+
+pub unread-all : (r : Reader) → r.at ≡ header_size → unread r ≡ brought r.message.now
+unread-all r e = rw (e, length-drop)
+
+-- so a `for` over a new reader of a right message goes over exactly its writes
+pub reader-brings :
+    (r : Reader) → message_ok r.message.now ≡ true → r.at ≡ first_place r.message.now → YieldsList Moves (λ w. w) r (brought r.message.now)
+reader-brings r ok e = rw (← unread-all r (e ∙ first-right r.message.now ok)) (reader-yields r)

@@ -1,22 +1,28 @@
 -- Laws of records: a record and its bytes, both ways, and records one behind the other.
 -- Assumes nothing.
 use Prim.Native.Nat.{ℕ, zero, suc, ◌+◌, ◌*◌, ◌/◌, ◌%◌, ◌^◌, ◌<◌, ◌≤◌}
-use mathlib.Core.Bool.{Bool, true, false, ◌&&◌, and-true, and-false}
-use mathlib.Core.List.{List, [], ◌∷◌, ◌++◌, append-nil}
-use mathlib.Core.Path.{◌≡◌, refl, ap, ◌∙◌}
+use mathlib.Core.Bool.{Bool, true, false, ◌&&◌, ◌||◌, not, and-true, and-false}
+use mathlib.Core.List.{List, [], ◌∷◌, ◌++◌, map, append-nil}
+use mathlib.Core.Path.{◌≡◌, refl, ap, sym, ◌∙◌}
 use native.Mathlib.Omega.{arith}
 use borrow.Author.Tests.{ltb-true, ltb-false, lt-ltb, le-ltb, eq-eqb, ne_eqb}
 use lib.Dec.{ltb, leb, eqb}
-use lib.ListN.{length, get_or, take, drop, length-drop, length-map, get_or-map, replicate, length-replicate, set}
-use lib.Seq.{get_or-drop, take_all, take-length, sets, sets-eq}
-use Rattle.notes.specs.Lists.{every}
+use lib.ListN.{length, get_or, take, drop, length-drop, length-map, get_or-map, replicate, length-replicate}
+use lib.Seq.{get_or-drop, take-length, sets, sets-eq}
+use Rattle.notes.specs.Lists.{every, above}
 use Rattle.notes.specs.Index.{servers, phones}
 use Rattle.notes.specs.Bytes.{field, from_bytes, to_bytes, pieces}
 use Rattle.notes.specs.Vector.{behind, vector_bytes}
-use Rattle.notes.specs.Record.{record_size, cells, in_range, well_formed, stamp_at, number, origin_field, phone_field, cell_field, decode, encode, records, record_bytes}
+use Rattle.notes.specs.Record.{record_size, ranked, cells, in_range, well_formed, stamp_at, number, origin_field, phone_field, cell_field, decode, encode, records, record_bytes}
 use Rattle.notes.specs.Forms.{limits_of}
 use Rattle.notes.specs.declared.record.Record.{Record}
-use Rattle.notes.proofs.Lists.{both, every_more, every-fails, parts_join, sets-front}
+use Rattle.notes.specs.declared.record.Rank.{Rank}
+use Rattle.notes.specs.contracts.record.RankPartialOrd.TheImpl as order
+use Rattle.std.specs.Prelude.{Some}
+use Rattle.std.specs.List.{list_all}
+use Rattle.std.proofs.lemmas.List.Folds.{list_all-map}
+use Rattle.std.specs.Ordering.{partial_lt, partial_ordering_then, nat_cmp}
+use Rattle.notes.proofs.Lists.{both, every-all, less-first, less-last, parts_join, sets-front}
 use Rattle.notes.proofs.Numbers.{AllBelow, below-take, below-drop, from-below, one_byte, from-to, from-two, from-split, from_one, from-agree, part-back, byte-join}
 use Rattle.notes.proofs.Pieces.{Each, each-also, length-pieces, piece-at, pieces-join, pieces-split, length-flat_map}
 use Rattle.notes.proofs.Vectors.{vector-bytes, vector-from, length-vector_bytes, length-vector_from, counts-below, count-from, vector-agree, zeros-at, stamp-limits}
@@ -183,29 +189,36 @@ module _ (n : ℕ) (r : Record) where
     unfolding well_formed
     number-decides k e = rw (k, stamp-limits n r.stamp l, e, and-true)
 
+-- every test, in the order in which they are made
+pub well-formed-is :
+    (n : ℕ) (r : Record)
+    → length r.stamp.counts ≡ servers
+    → well_formed n r ≡ (in_range n r && not (behind (limits_of n) r.stamp) && leb 1 (number r))
+unfolding well_formed
+well-formed-is n r l = rw (stamp-limits n r.stamp l) (swap (in_range n r) (leb 1 (number r)) (not (behind (limits_of n) r.stamp)))
+  where
+    swap : (a b c : Bool) → (a && b && c) ≡ (a && c && b)
+    swap false b c = refl
+    swap true true c = sym (and-true c)
+    swap true false c = sym (and-false c)
+
+-- ---- the derived order of ranks is that of their numbers
+pub less-above : (a b : Rank) → partial_lt order.partial_cmp-value.it b a ≡ above (ranked a) (ranked b)
+unfolding above
+less-above a b =
+    let numbers = Some (nat_cmp b.number a.number) in
+    let origins = partial_ordering_then (Some (nat_cmp b.origin.0 a.origin.0)) numbers in
+    less-first a.sum b.sum origins
+    ∙ ap (λ t. ltb b.sum a.sum || eqb a.sum b.sum && t)
+    (less-first a.origin.0 b.origin.0 numbers
+    ∙ ap (λ t. ltb b.origin.0 a.origin.0 || eqb a.origin.0 b.origin.0 && t) (less-last a.number b.number))
+
 -- ---- records in a row, tested one by one
-module _ (p : Record → Bool) (k : ℕ) (b : List ℕ) where
-  passes : (j : ℕ) → j < k → p (get_or (records k b) j (decode [])) ≡ p (decode (take record_size (drop (record_size * j) b)))
-  passes j h = ap p (record-at k b j h)
 
-  pub all_none : every p (take 0 (records k b)) ≡ true
-  unfolding every
-  all_none = refl
-
-  pub all_more :
-      (j : ℕ)
-      → j < k
-      → every p (take j (records k b)) ≡ true
-      → p (decode (take record_size (drop (record_size * j) b))) ≡ true
-      → every p (take (j + 1) (records k b)) ≡ true
-  all_more j h e q =
-      rw (every_more p (records k b) j (decode []) (rw length-records h), e) (passes j h ∙ q)
-
-  pub all-fails : (j : ℕ) → j < k → p (decode (take record_size (drop (record_size * j) b))) ≡ false → every p (records k b) ≡ false
-  all-fails j h q = every-fails p (records k b) j (decode []) (rw length-records h) (passes j h ∙ q)
-
-  pub all-passed : (j : ℕ) → k ≤ j → every p (take j (records k b)) ≡ true → every p (records k b) ≡ true
-  all-passed j h e = rw (take_all j (records k b) (rw length-records h)) at e
+-- as std's `all` tests the pieces that they are read from
+pub all-pieces : (p : Record → Bool) (k : ℕ) (b : List ℕ) → list_all (λ x. p (decode x)) (pieces record_size k b) ≡ every p (records k b)
+unfolding records
+all-pieces p k b = sym (list_all-map p decode (pieces record_size k b)) ∙ every-all p (map decode (pieces record_size k b))
 
 -- ---- bytes that agree, as where zeros stand past the end, give the same record
 pub decode-agree : (a b : List ℕ) → ((i : ℕ) → get_or a i 0 ≡ get_or b i 0) → decode a ≡ decode b
@@ -230,9 +243,14 @@ decode-set b n h =
 -- ---- a record's bytes stored field by field
 pub encode-stored :
     (r : Record) (l : List ℕ)
-    → sets (sets (sets (sets (set (set l 0 r.origin.0) 1 r.phone.0) 2 (to_bytes 2 r.cell)) 4 (to_bytes 4 r.value)) 8 (to_bytes 4 r.time)) 12 (vector_bytes r.stamp) ≡ sets l 0 (encode r)
+    → r.origin.0 < 256
+    → r.phone.0 < 256
+    → sets (sets (sets (sets (sets (sets l 0 (to_bytes 1 r.origin.0)) 1 (to_bytes 1 r.phone.0)) 2 (to_bytes 2 r.cell)) 4 (to_bytes 4 r.value)) 8 (to_bytes 4 r.time)) 12 (vector_bytes r.stamp) ≡ sets l 0 (encode r)
 unfolding encode to_bytes
-encode-stored r l = refl
+encode-stored r l o p =
+    let e : r.origin.0 % 256 ≡ r.origin.0 = omega arith in
+    let f : r.phone.0 % 256 ≡ r.phone.0 = omega arith in
+    rw (e, f)
 
 pub encode-filled : (r : Record) → length r.stamp.counts ≡ servers → sets (replicate record_size 0) 0 (encode r) ≡ encode r
 encode-filled r l =

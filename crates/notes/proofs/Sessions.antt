@@ -7,32 +7,32 @@ use native.Mathlib.Omega.{arith}
 use borrow.Author.Tests.{eqb-true}
 use lib.Dec.{eqb}
 use lib.ListN.{length}
+use Rattle.std.specs.Prelude.{Result, Ok, Err}
 use Rattle.notes.specs.Index.{ServerId, servers}
 use Rattle.notes.specs.Vector.{Vector, at}
 use Rattle.notes.specs.Session.{Choice, Reads, Writes, Both, choice_number, choose, Session, chosen_of, read_carries, after_read, after_write}
 use Rattle.notes.specs.declared.message.Refusal.TheVariants.{OutOfRange}
-use Rattle.notes.specs.declared.session.Chosen.{Chosen}
-use Rattle.notes.specs.declared.session.Chosen.TheVariants.{As, Refused}
+use Rattle.notes.specs.declared.message.Refusal.{Refusal}
 use Rattle.notes.proofs.Vectors.{at-maximum, length-maximum}
 
 -- a choice is read back from its number
-pub choose-number : (c : Choice) → choose (choice_number c) ≡ As c
+pub choose-number : (c : Choice) → choose (choice_number c) ≡ Ok c
 unfolding choose
 choose-number Reads = refl
 choose-number Writes = refl
 choose-number Both = refl
 
 -- and a number that chooses is its choice's
-number_of : Chosen → ℕ
-number_of (As c) = choice_number c
-number_of (Refused r) = 0
+number_of : Result Choice Refusal → ℕ
+number_of (Ok c) = choice_number c
+number_of (Err r) = 0
 
 not-zero : (c : Choice) → 0 ≡ choice_number c → ⊥
 not-zero Reads e = omega arith
 not-zero Writes e = omega arith
 not-zero Both e = omega arith
 
-pub number-chosen : (k : ℕ) (c : Choice) → choose k ≡ As c → choice_number c ≡ k
+pub number-chosen : (k : ℕ) (c : Choice) → choose k ≡ Ok c → choice_number c ≡ k
 unfolding choose number_of
 number-chosen k c e = go (eqb k 1) (eqb k 2) (eqb k 3) refl refl refl (ap number_of e)
   where
@@ -41,7 +41,7 @@ number-chosen k c e = go (eqb k 1) (eqb k 2) (eqb k 3) refl refl refl (ap number
         → eqb k 1 ≡ x
         → eqb k 2 ≡ y
         → eqb k 3 ≡ z
-        → number_of (cond x (As Reads) (cond y (As Writes) (cond z (As Both) (Refused OutOfRange)))) ≡ choice_number c
+        → number_of (cond x (Ok Reads) (cond y (Ok Writes) (cond z (Ok Both) (Err OutOfRange)))) ≡ choice_number c
         → choice_number c ≡ k
     go true y z p q r e = sym e ∙ sym (eqb-true k 1 p)
     go false true z p q r e = sym e ∙ sym (eqb-true k 2 q)

@@ -1,14 +1,16 @@
 -- Laws of vectors: each over every position and every N.
 -- Assumes nothing.
-use Prim.Native.Nat.{ℕ, zero, suc, ◌+◌, ◌-◌, ◌*◌, ◌<◌, ◌≤◌, max}
+use Prim.Native.Nat.{ℕ, zero, suc, ◌+◌, ◌*◌, ◌<◌, ◌≤◌, max}
 use mathlib.Core.Bool.{Bool, true, false, ◌&&◌, ◌||◌, not, cond, and_assoc, and-false, or-true, false≢true}
-use mathlib.Core.List.{List, [], ◌∷◌, ◌++◌, map, zip_with, flat_map, foldr, append-nil}
+use mathlib.Core.List.{List, [], ◌∷◌, ◌++◌, map, zip_with, flat_map, append-nil}
 use mathlib.Core.Path.{◌≡◌, refl, ap, sym, ◌∙◌}
+use native.Mathlib.Nat.{zero-add}
 use native.Mathlib.Omega.{arith}
 use borrow.Author.Tests.{ltb-true, ltb-false, lt-ltb, le-ltb, lt-leb, le-leb, eq-eqb, ne_eqb}
 use lib.Dec.{ltb, leb, eqb, leb-suc-suc}
-use lib.ListN.{length, get_or, take, drop, set, replicate, get_or-eq_default, get_or-map, length-map, length-take, length-drop, length-append, length-replicate}
-use lib.Seq.{drop-nil, get_or-set_same, get_or-set_other, get_or-take, get_or-drop, drop-drop, take_all, length-take-le, ext_get_or, sets}
+use lib.ListN.{length, get_or, take, drop, set, replicate, get_or-eq_default, get_or-map, length-map, length-take, length-append, length-replicate}
+use lib.Seq.{drop-nil, get_or-set_same, get_or-set_other, get_or-take, drop-drop, length-take-le, ext_get_or, sets}
+use Rattle.std.specs.List.{fold, zip, sum as sum_std}
 use Rattle.notes.specs.Lists.{every, any}
 use Rattle.notes.specs.Index.{servers}
 use Rattle.notes.specs.Bytes.{from_bytes, to_bytes, pieces}
@@ -17,7 +19,7 @@ use Rattle.notes.specs.Record.{number_most, stamp_ok}
 use Rattle.notes.specs.Forms.{limit_at, limits_of}
 use Rattle.notes.specs.declared.index.ServerId.{ServerId}
 use Rattle.notes.specs.declared.vector.Vector.{Vector}
-use Rattle.notes.proofs.Lists.{neither, take_more, copied_more, every_more, any-more, sets-append, flat_map-append, length-zip_with, get_or-zip_with}
+use Rattle.notes.proofs.Lists.{neither, take_more, copied_more, copied-at, every-fold, any-fold, any-zip, sum-fold, sets-append, flat_map-append, length-zip_with, get_or-zip_with}
 use Rattle.notes.proofs.Numbers.{AllBelow, below-drop, from-below, from-agree, from-to, to-from, length-to_bytes}
 use Rattle.notes.proofs.Pieces.{Each, each_of, length-pieces, piece-at, pieces-join, pieces-split, length-flat_map}
 
@@ -203,74 +205,37 @@ module _ (v w : Vector) (l : length v.counts ≡ length w.counts) where
   unfolding behind
   behind-true s h = some_below v.counts w.counts s.0 l h
 
--- ---- what loops over the positions need: one position more, and the last
+-- ---- what loops over the positions need: one position more
 module _ (v w : Vector) (lv : length v.counts ≡ servers) (lw : length w.counts ≡ servers) where
-  pub behind_more :
-      (i : ℕ)
-      → i < servers
-      → any (λ below. below) (take (i + 1) (zip_with ltb v.counts w.counts)) ≡ (any (λ below. below) (take i (zip_with ltb v.counts w.counts)) || ltb (get_or v.counts i 0) (get_or w.counts i 0))
-  behind_more i h =
-      let l = length-zip_with ltb v.counts w.counts (lv ∙ sym lw) in
-      rw (
-        any-more (λ below. below) (zip_with ltb v.counts w.counts) i false (omega arith),
-        get_or-zip_with ltb v.counts w.counts i 0 0 false (omega arith) (omega arith),
-      )
-
-  pub behind-all : (i : ℕ) → servers ≤ i → any (λ below. below) (take i (zip_with ltb v.counts w.counts)) ≡ behind v w
-  unfolding behind
-  behind-all i h =
-      let l = length-zip_with ltb v.counts w.counts (lv ∙ sym lw) in
-      rw (take_all i (zip_with ltb v.counts w.counts) (omega arith))
-
   pub maximum-more :
-      (i : ℕ)
+      (l : List ℕ) (i x : ℕ)
       → i < servers
-      → set (take i (maximum v w).counts ++ drop i v.counts) i (max (get_or v.counts i 0) (get_or w.counts i 0)) ≡ take (i + 1) (maximum v w).counts ++ drop (i + 1) v.counts
+      → l ≡ take i (maximum v w).counts ++ drop i v.counts
+      → x ≡ max (get_or l i 0) (get_or w.counts i 0)
+      → set l i x ≡ take (i + 1) (maximum v w).counts ++ drop (i + 1) v.counts
   unfolding maximum
-  maximum-more i h =
-      let l = length-zip_with max v.counts w.counts (lv ∙ sym lw) in
-      rw (← get_or-zip_with max v.counts w.counts i 0 0 0 (omega arith) (omega arith))
-      (copied_more (zip_with max v.counts w.counts) v.counts i 0 (omega arith) (omega arith))
+  maximum-more l i x h e m =
+      let n = length-zip_with max v.counts w.counts (lv ∙ sym lw) in
+      let own = copied-at (zip_with max v.counts w.counts) v.counts i 0 (omega arith) (omega arith) in
+      let both = sym (get_or-zip_with max v.counts w.counts i 0 0 0 (omega arith) (omega arith)) in
+      rw (m, e, own, both) (copied_more (zip_with max v.counts w.counts) v.counts i 0 (omega arith) (omega arith))
 
   pub length-maximum : length (maximum v w).counts ≡ servers
   unfolding maximum
   length-maximum = length-zip_with max v.counts w.counts (lv ∙ sym lw) ∙ lv
 
-pub sum_more : (l : List ℕ) (i : ℕ) → i < length l → foldr ◌+◌ 0 (take (i + 1) l) ≡ foldr ◌+◌ 0 (take i l) + get_or l i 0
-sum_more l i h = rw (take_more l i 0 h) (go (take i l) (get_or l i 0))
-  where
-    go : (a : List ℕ) (x : ℕ) → foldr ◌+◌ 0 (a ++ (x ∷ [])) ≡ foldr ◌+◌ 0 a + x
-    go [] x = omega arith
-    go (y ∷ a) x = rw (go a x) (omega arith)
+-- ---- what chains over the positions give
+pub behind-folded : (v w : Vector) → fold (λ b p. b || ltb p.0 p.1) false (zip v.counts w.counts) ≡ behind v w
+unfolding behind
+behind-folded v w = any-fold (λ p. ltb p.0 p.1) (zip v.counts w.counts) false ∙ any-zip ltb v.counts w.counts
 
-module _ (v : Vector) (l : length v.counts ≡ servers) where
-  pub sum-all : (i : ℕ) → servers ≤ i → foldr ◌+◌ 0 (take i v.counts) ≡ sum v
-  unfolding sum
-  sum-all i h = rw (take_all i v.counts (omega arith))
+pub zero-folded : (n : ℕ) (v : Vector) → fold (λ b x. b && eqb x 0) true (drop n v.counts) ≡ zero_from n v
+unfolding zero_from
+zero-folded n v = every-fold (λ x. eqb x 0) (drop n v.counts) true
 
-module _ (v : Vector) (l : length v.counts ≡ servers) (n : ℕ) where
-  pub zero-none : every (λ x. eqb x 0) (take (n - n) (drop n v.counts)) ≡ true
-  unfolding every
-  zero-none = let e : n - n ≡ 0 = omega arith in rw e
-
-  pub zero_more :
-      (i : ℕ)
-      → n ≤ i
-      → i < servers
-      → every (λ x. eqb x 0) (take (i + 1 - n) (drop n v.counts)) ≡ (every (λ x. eqb x 0) (take (i - n) (drop n v.counts)) && eqb (get_or v.counts i 0) 0)
-  zero_more i h k =
-      let e : i + 1 - n ≡ i - n + 1 = omega arith in
-      let f : n + (i - n) ≡ i = omega arith in
-      rw (
-        e,
-        every_more (λ x. eqb x 0) (drop n v.counts) (i - n) 0 (rw length-drop (omega arith)),
-        get_or-drop n v.counts (i - n) 0,
-        f,
-      )
-
-  pub zero-all : (i : ℕ) → servers ≤ i → every (λ x. eqb x 0) (take (i - n) (drop n v.counts)) ≡ zero_from n v
-  unfolding zero_from
-  zero-all i h = rw (take_all (i - n) (drop n v.counts) (rw length-drop (omega arith)))
+pub sum-folded : (v : Vector) → sum_std v.counts ≡ sum v
+unfolding sum
+sum-folded v = sum-fold v.counts 0 ∙ zero-add _
 
 -- ---- a vector's bytes stored one count after the other
 module _ (l : List ℕ) (i : ℕ) (h : i < length l) where

@@ -1,7 +1,8 @@
 -- Update messages: a header of eight bytes, then the sender's history in order; reading one.
 -- Assumes nothing.
-use Rattle.std.specs.Prelude.{ℕ, ◌+◌, ◌*◌, ◌-◌, ◌/◌, ◌%◌, Bool, true, false, ◌&&◌, not, cond, List, [], ◌∷◌, ◌++◌, ◌≡◌, ltb, leb, eqb, length, take, drop}
+use Rattle.std.specs.Prelude.{ℕ, ◌+◌, ◌*◌, ◌-◌, ◌/◌, ◌%◌, Bool, ◌&&◌, not, cond, List, [], ◌∷◌, ◌++◌, ◌≡◌, ltb, leb, eqb, length, take, drop, Result, Ok, Err, Some, None}
 use Rattle.std.proofs.Math.Option.{Option, map}
+use Rattle.std.specs.Prelude.{Option as Read}
 use Rattle.notes.specs.Lists.{every, same}
 use Rattle.notes.specs.Bytes.{Field, field, to_bytes}
 use Rattle.notes.specs.Reply.{Reply, done, refused, Filled, given, first, fill}
@@ -10,11 +11,7 @@ use Rattle.notes.specs.Record.{record_size, decode, well_formed, records, record
 use Rattle.notes.specs.declared.message.Header.{Header}
 use Rattle.notes.specs.declared.message.Refusal.{Refusal}
 use Rattle.notes.specs.declared.message.Refusal.TheVariants.{OutOfRange, Malformed, TooShort}
-use Rattle.notes.specs.declared.message.Checked.{Checked}
-use Rattle.notes.specs.declared.message.Checked.TheVariants as checked
-use Rattle.notes.specs.declared.message.Written.{Written}
-use Rattle.notes.specs.declared.message.Written.TheVariants as written
-use Rattle.notes.specs.declared.reader.Item.{Item}
+use Rattle.notes.specs.declared.reader.Reader.{Reader}
 
 -- ---- the layout
 
@@ -106,19 +103,19 @@ abbrev pub header_values : Header → List ℕ
 header_values h = h.n ∷ h.sender.0 ∷ h.count ∷ []
 
 -- a check answers what the message says
-abbrev pub checked_reply : Checked → Reply
-checked_reply (checked.Update h) = done (header_values h)
-checked_reply (checked.Refused r) = refusal_reply r
+abbrev pub checked_reply : Result Header Refusal → Reply
+checked_reply (Ok h) = done (header_values h)
+checked_reply (Err r) = refusal_reply r
 
 unfoldable pub check : List ℕ → Reply
 check m = cond (message_ok m) (done (header_values (header_said m))) (refusal_reply Malformed)
 
 -- a writer answers how many bytes it filled
-abbrev pub writer_reply : Written → Reply
-writer_reply (written.Bytes k) = done (k ∷ [])
-writer_reply (written.Refused r) = refusal_reply r
+abbrev pub writer_reply : Result ℕ Refusal → Reply
+writer_reply (Ok k) = done (k ∷ [])
+writer_reply (Err r) = refusal_reply r
 
-abbrev pub filled : Written → List ℕ → Filled
+abbrev pub filled : Result ℕ Refusal → List ℕ → Filled
 filled w out = record { reply = writer_reply w; output = out }
 
 abbrev pub fill_unless : Option Refusal → List ℕ → List ℕ → Filled
@@ -143,16 +140,20 @@ write n sender b out = fill_unless (write_refusal n sender b out) (message_of n 
 unfoldable pub first_place : List ℕ → ℕ
 first_place m = cond (message_ok m) header_size (length m)
 
+-- where it begins, as an answer: a place, or the refusal that a check gives
+unfoldable pub begin : List ℕ → Reply
+begin m = cond (message_ok m) (done (first_place m ∷ [])) (refusal_reply Malformed)
+
+abbrev pub begun : Result ℕ Refusal → Reply
+begun place = writer_reply place
+
 -- a whole record stands at a place
 abbrev pub whole_at : List ℕ → ℕ → Bool
 whole_at m at = leb record_size (length m - at)
 
-abbrev pub item : Bool → List ℕ → Item
-item found b = record { found = found; write = decode b }
-
--- the record at a place, or that there is none
-unfoldable pub read_at : List ℕ → ℕ → Item
-read_at m at = cond (whole_at m at) (item true (take record_size (drop at m))) (item false [])
+-- the record at a place, if there is one
+unfoldable pub read_at : List ℕ → ℕ → Read Record
+read_at m at = cond (whole_at m at) (Some (decode (take record_size (drop at m)))) None
 
 -- the place behind it, or the end
 unfoldable pub place_after : List ℕ → ℕ → ℕ
@@ -164,5 +165,22 @@ left_from m at = (length m - at) / record_size
 
 -- reading on from a place finds these writes in order, and then no more
 unfoldable pub Reads : List ℕ → ℕ → List Record → Type 0
-Reads m at [] = (read_at m at).found ≡ false
-Reads m at (w ∷ ws) = (read_at m at ≡ record { found = true; write = w }) × Reads m (place_after m at) ws
+Reads m at [] = read_at m at ≡ None
+Reads m at (w ∷ ws) = (read_at m at ≡ Some w) × Reads m (place_after m at) ws
+
+-- ---- a reader holds the message and the place
+
+-- where a new reader stands, as an answer
+abbrev pub begun_at : Result Reader Refusal → Reply
+begun_at (Ok r) = done (r.at ∷ [])
+begun_at (Err k) = refusal_reply k
+
+-- the records that a reader has left
+abbrev pub unread : Reader → List Record
+unread r = records (left_from r.message.now r.at) (drop r.at r.message.now)
+
+-- a reader gives the record at its place and moves past it
+pub record Moves (before : Reader) (found : Read Record) (after : Reader) : Type 0 where
+  pub read : found ≡ read_at before.message.now before.at
+  pub message : after.message ≡ before.message
+  pub place : after.at ≡ place_after before.message.now before.at

@@ -1,10 +1,9 @@
 -- The phone's session: its choice, what a request carries, and what a reply leaves.
 -- Assumes nothing.
-use Rattle.std.specs.Prelude.{ℕ, cond, eqb}
+use Rattle.std.specs.Prelude.{ℕ, cond, eqb, Result, Ok, Err}
 use Rattle.notes.specs.Vector.{zeros, maximum, Vector}
 use Rattle.notes.specs.declared.message.Refusal.TheVariants.{OutOfRange}
-use Rattle.notes.specs.declared.session.Chosen.{Chosen}
-use Rattle.notes.specs.declared.session.Chosen.TheVariants.{As, Refused}
+use Rattle.notes.specs.declared.message.Refusal.{Refusal}
 pub use Rattle.notes.specs.declared.session.Choice.{Choice}
 pub use Rattle.notes.specs.declared.session.Choice.TheVariants.{Reads, Writes, Both}
 pub use Rattle.notes.specs.declared.session.Session.{Session}
@@ -17,8 +16,8 @@ choice_number Writes = 2
 choice_number Both = 3
 
 -- an unknown choice is 1
-unfoldable pub choose : ℕ → Chosen
-choose k = cond (eqb k 1) (As Reads) (cond (eqb k 2) (As Writes) (cond (eqb k 3) (As Both) (Refused OutOfRange)))
+unfoldable pub choose : ℕ → Result Choice Refusal
+choose k = cond (eqb k 1) (Ok Reads) (cond (eqb k 2) (Ok Writes) (cond (eqb k 3) (Ok Both) (Err OutOfRange)))
 
 -- ---- the session: its choice, the vector that reads' replies raise (R), and the one that writes' replies raise
 

@@ -3,11 +3,11 @@ ghost use Rattle.std.specs.Prelude.{◌≡◌};
 ghost use Rattle.notes.specs.Index.{server_ok};
 
 // A server's number: the paper's S_j.
-#[derive(Clone, Copy)]
+#[derive(Clone, Copy, PartialEq, Eq, PartialOrd, Ord)]
 pub struct ServerId(pub u8);
 
 // A phone's number: the paper's C_i.
-#[derive(Clone, Copy)]
+#[derive(Clone, Copy, PartialEq, Eq)]
 pub struct PhoneId(pub u8);
 
 impl ServerId {
@@ -15,16 +15,11 @@ impl ServerId {
     pub const MOST: u8 = 8;
 
     // Whether n is 1 to 8, and this server's number is below it.
+    #[tactic(auto, unfolding(crate::specs::Index::server_ok))]
     pub fn is_one_of(self, n: u8) -> bool
         ensures { result ≡ server_ok n self }
     {
-        if n < 1 {
-            return false;
-        }
-        if Self::MOST < n {
-            return false;
-        }
-        self.0 < n
+        1 <= n && n <= Self::MOST && self.0 < n
     }
 }
 

@@ -5,38 +5,26 @@ ghost use Rattle.notes.specs.Forms.{header_ok};
 ghost use Rattle.notes.specs.Message.{checked_reply, check as check_of, whole, records_in, records_ok, filled, write as write_of};
 
 use crate::index::ServerId;
+use crate::number::raw::Number;
+use crate::record;
 use crate::record::Record;
-use crate::{number, record};
 
 pub mod raw;
 
 // What a message says of itself: N, sender and count.
-#[derive(Clone, Copy)]
+#[derive(Clone, Copy, PartialEq, Eq)]
 pub struct Header {
     pub n: u8,
     pub sender: ServerId,
     pub count: usize,
 }
 
-#[derive(Clone, Copy)]
+// What the calls on messages and sessions refuse.
+#[derive(Clone, Copy, PartialEq, Eq)]
 pub enum Refusal {
     OutOfRange,
     Malformed,
     TooShort,
-}
-
-// What checking a message finds.
-#[derive(Clone, Copy)]
-pub enum Checked {
-    Update(Header),
-    Refused(Refusal),
-}
-
-// What filling an output gives: how many bytes, or a refusal.
-#[derive(Clone, Copy)]
-pub enum Written {
-    Bytes(usize),
-    Refused(Refusal),
 }
 
 impl Header {
@@ -66,37 +54,33 @@ fn header_ok(m: &[u8]) -> bool
     if m.len() < Header::LEN {
         return false;
     }
-    if !ServerId(m[Header::SENDER]).is_one_of(m[Header::N]) {
-        return false;
-    }
-    let count = number::raw::u16_at(m, Header::COUNT) as usize;
-    if Header::WRITES_MOST < count {
-        return false;
-    }
-    if (number::raw::u16_at(m, Header::OFFSET) as usize) != Header::LEN {
-        return false;
-    }
-    if (number::raw::u16_at(m, Header::TOTAL) as usize) != m.len() {
-        return false;
-    }
-    m.len() == Header::LEN + Record::LEN * count
+    let sender = ServerId(m[Header::SENDER]);
+    let count = usize::from(u16::at(m, Header::COUNT));
+    let offset = usize::from(u16::at(m, Header::OFFSET));
+    let total = usize::from(u16::at(m, Header::TOTAL));
+    sender.is_one_of(m[Header::N])
+        && count <= Header::WRITES_MOST
+        && offset == Header::LEN
+        && total == m.len()
+        && m.len() == Header::LEN + Record::LEN * count
 }
 
 // Answers N, sender and count, or 6.
-pub fn check(m: &[u8]) -> Checked
+pub fn check(m: &[u8]) -> Result<Header, Refusal>
     ensures { checked_reply result ≡ check_of m.now }
 {
     if !header_ok(m) {
-        return Checked::Refused(Refusal::Malformed);
+        return Err(Refusal::Malformed);
     }
     let n = m[Header::N];
-    if !record::raw::all_well_formed(&m[Header::LEN..], n) {
-        return Checked::Refused(Refusal::Malformed);
+    let records = &m[Header::LEN..];
+    if !record::raw::all_well_formed(records, n) {
+        return Err(Refusal::Malformed);
     }
-    Checked::Update(Header {
+    Ok(Header {
         n,
         sender: ServerId(m[Header::SENDER]),
-        count: (m.len() - Header::LEN) / Record::LEN,
+        count: records.len() / Record::LEN,
     })
 }
 
@@ -105,28 +89,24 @@ fn records_ok(b: &[u8], n: u8) -> bool
     requires { n ≤ servers }
     ensures { result ≡ (whole b.now && records_ok n (records_in b.now)) }
 {
-    if b.len() % Record::LEN != 0 {
-        return false;
-    }
-    if Header::WRITES_MOST < b.len() / Record::LEN {
-        return false;
-    }
-    record::raw::all_well_formed(b, n)
+    b.len() % Record::LEN == 0
+        && b.len() / Record::LEN <= Header::WRITES_MOST
+        && record::raw::all_well_formed(b, n)
 }
 
-// Writes the message of these records at the start of out: 1 for N or sender, then 6, then 9 for out.
-pub fn write(n: u8, sender: ServerId, records: &[u8], out: &mut [u8]) -> Written
+// Writes the message of these records at the start of out, and answers its length: 1 for N or sender, then 6, then 9 for out.
+pub fn write(n: u8, sender: ServerId, records: &[u8], out: &mut [u8]) -> Result<usize, Refusal>
     ensures { filled result out.new ≡ write_of n sender records.now out.old }
 {
     if !sender.is_one_of(n) {
-        return Written::Refused(Refusal::OutOfRange);
+        return Err(Refusal::OutOfRange);
     }
     if !records_ok(records, n) {
-        return Written::Refused(Refusal::Malformed);
+        return Err(Refusal::Malformed);
     }
     if out.len() < Header::LEN + records.len() {
-        return Written::Refused(Refusal::TooShort);
+        return Err(Refusal::TooShort);
     }
     raw::put_message(out, n, sender, records);
-    Written::Bytes(Header::LEN + records.len())
+    Ok(Header::LEN + records.len())
 }

@@ -1,22 +1,2 @@
-// Numbers: one made wider, and how far one is past another. Numbers in bytes are in `raw`.
-ghost use Rattle.std.specs.Prelude.{◌≡◌, ◌-◌, ◌<◌};
-
+// Numbers in bytes, the lowest byte first: read and stored at places that the caller knows to be there.
 pub mod raw;
-
-// A count as a number of four bytes.
-pub fn wide32(x: u16) -> u32
-    ensures { (result ≡ x) × (result < 65536) }
-{
-    x as u32
-}
-
-// How far a number is past another.
-pub fn past(last: u16, kept: u16) -> usize
-    ensures { (result ≡ last - kept) × (result < 65536) }
-{
-    if kept < last {
-        (last - kept) as usize
-    } else {
-        0
-    }
-}

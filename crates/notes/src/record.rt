@@ -1,14 +1,15 @@
 // Records of 28 bytes: one write each.
 ghost use Rattle.std.specs.Prelude.{◌≡◌};
-ghost use Rattle.notes.specs.Record.{decode, encode, number as number_of, in_range, well_formed, beats as beats_by};
+ghost use Rattle.notes.specs.Record.{decode, encode, number as number_of, in_range, well_formed, rank as rank_of, ranked, beats as beats_by};
 
 use crate::index::{PhoneId, ServerId};
+use crate::number::raw::Number;
 use crate::vector::Vector;
 use crate::{number, vector};
 
 pub mod raw;
 
-#[derive(Clone, Copy)]
+#[derive(Clone, Copy, PartialEq, Eq)]
 pub struct Record {
     pub origin: ServerId,
     pub phone: PhoneId,
@@ -39,7 +40,7 @@ impl Record {
 
     pub const NUMBER_MOST: u16 = 256;
 
-    // The record that 28 bytes are. Past the end of the bytes stand zeros.
+    // The record that 28 bytes are. Past the end of the bytes stand zeros, so this is no `From`.
     pub fn from_bytes(b: &[u8]) -> Record
         ensures { result ≡ decode b.now }
     {
@@ -55,14 +56,13 @@ impl Record {
     pub fn to_bytes(self) -> [u8; Record::LEN]
         ensures { result ≡ encode self }
     {
-        let stamp = self.stamp;
         let mut b = [0u8; Self::LEN];
-        number::raw::put_u8(&mut b, Self::ORIGIN, self.origin.0);
-        number::raw::put_u8(&mut b, Self::PHONE, self.phone.0);
-        number::raw::put_u16(&mut b, Self::CELL, self.cell);
-        number::raw::put_u32(&mut b, Self::VALUE, self.value);
-        number::raw::put_u32(&mut b, Self::TIME, self.time);
-        vector::raw::put_vector(&mut b, Self::STAMP, stamp);
+        self.origin.0.put(&mut b, Self::ORIGIN);
+        self.phone.0.put(&mut b, Self::PHONE);
+        self.cell.put(&mut b, Self::CELL);
+        self.value.put(&mut b, Self::VALUE);
+        self.time.put(&mut b, Self::TIME);
+        vector::raw::put_vector(&mut b, Self::STAMP, self.stamp);
         b
     }
 
@@ -70,9 +70,7 @@ impl Record {
     pub fn number(self) -> u16
         ensures { result ≡ number_of self }
     {
-        let stamp = self.stamp;
-        let origin = self.origin;
-        stamp.at(origin)
+        self.stamp.at(self.origin)
     }
 
     // Origin below n; phone and cell in range.
@@ -80,13 +78,7 @@ impl Record {
     fn in_range(self, n: u8) -> bool
         ensures { result ≡ in_range n self }
     {
-        if self.origin.0 >= n {
-            return false;
-        }
-        if self.phone.0 >= PhoneId::COUNT {
-            return false;
-        }
-        self.cell < Self::CELLS
+        self.origin.0 < n && self.phone.0 < PhoneId::COUNT && self.cell < Self::CELLS
     }
 
     // Well formed for n servers. The phone time is free. For n = 0 no record is, since no origin is below it; for n above 8 a
@@ -94,30 +86,32 @@ impl Record {
     pub fn well_formed(self, n: u8) -> bool
         ensures { result ≡ well_formed n self }
     {
-        let stamp = self.stamp;
-        if !self.in_range(n) {
-            return false;
-        }
-        if raw::limits(n).is_behind(stamp) {
-            return false;
-        }
-        1 <= self.number()
+        self.in_range(n) && !raw::limits(n).is_behind(self.stamp) && 1 <= self.number()
     }
 
-    // Whether this record wins a cell over the other: the greater sum of T, then the higher origin, then the higher number.
+    // What decides who wins a cell: the greater sum of T, then the higher origin, then the higher number.
+    fn rank(self) -> Rank
+        ensures { ranked result ≡ rank_of self }
+    {
+        Rank {
+            sum: self.stamp.sum(),
+            origin: self.origin,
+            number: self.number(),
+        }
+    }
+
+    // Whether this record wins a cell over the other.
     pub fn beats(self, other: Record) -> bool
         ensures { result ≡ beats_by self other }
     {
-        let mine = self.stamp;
-        let theirs = other.stamp;
-        let a = mine.sum();
-        let b = theirs.sum();
-        if a != b {
-            return b < a;
-        }
-        if self.origin.0 != other.origin.0 {
-            return other.origin.0 < self.origin.0;
-        }
-        other.number() < self.number()
+        other.rank() < self.rank()
     }
+}
+
+// A record's rank among those of its cell: its fields decide in this order.
+#[derive(Clone, Copy, PartialEq, Eq, PartialOrd, Ord)]
+struct Rank {
+    sum: u32,
+    origin: ServerId,
+    number: u16,
 }

@@ -6,42 +6,36 @@ use crate::message::Refusal;
 use crate::vector::Vector;
 
 // What a session asks of the reads that it is served: that what it has read stays read, that its own writes are found, or both.
-#[derive(Clone, Copy)]
+#[derive(Clone, Copy, PartialEq, Eq)]
 pub enum Choice {
     Reads,
     Writes,
     Both,
 }
 
-// What a number chooses.
-#[derive(Clone, Copy)]
-pub enum Chosen {
-    As(Choice),
-    Refused(Refusal),
-}
-
 // The choice of a number: 1, 2 or 3. Any other is refused with 1.
-pub fn choose(k: u8) -> Chosen
-    ensures { result ≡ chosen_by k }
-{
-    if k == 1 {
-        return Chosen::As(Choice::Reads);
+impl TryFrom<u8> for Choice {
+    type Error = Refusal;
+
+    ghost try_from_gives = { λ k choice. choice ≡ chosen_by k };
+
+    #[tactic(auto, unfolding(crate::specs::Session::choose))]
+    fn try_from(k: u8) -> Result<Choice, Refusal> {
+        match k {
+            1 => Ok(Choice::Reads),
+            2 => Ok(Choice::Writes),
+            3 => Ok(Choice::Both),
+            _ => Err(Refusal::OutOfRange),
+        }
     }
-    if k == 2 {
-        return Chosen::As(Choice::Writes);
-    }
-    if k == 3 {
-        return Chosen::As(Choice::Both);
-    }
-    Chosen::Refused(Refusal::OutOfRange)
 }
 
-impl Choice {
-    // Its number.
-    pub fn number(self) -> u8
-        ensures { result ≡ choice_number self }
-    {
-        match self {
+// Its number.
+impl From<Choice> for u8 {
+    ghost from_gives = { λ choice k. k ≡ choice_number choice };
+
+    fn from(choice: Choice) -> u8 {
+        match choice {
             Choice::Reads => 1,
             Choice::Writes => 2,
             Choice::Both => 3,
@@ -50,7 +44,7 @@ impl Choice {
 }
 
 // A choice that no call changes, and two vectors: the paper's R, raised by reads' replies, and one raised by writes'.
-#[derive(Clone, Copy)]
+#[derive(Clone, Copy, PartialEq, Eq)]
 pub struct Session {
     pub choice: Choice,
     pub reads: Vector,
@@ -70,16 +64,14 @@ impl Session {
     }
 
     // The vector that a read's request carries: the maximum of those chosen.
+    #[tactic(auto, unfolding(crate::specs::Session::chosen_of))]
     pub fn read_carries(self) -> Vector
         ensures { result ≡ read_carries self }
     {
-        let choice = self.choice;
-        let reads = self.reads;
-        let writes = self.writes;
-        match choice {
-            Choice::Reads => reads,
-            Choice::Writes => writes,
-            Choice::Both => reads.maximum(writes),
+        match self.choice {
+            Choice::Reads => self.reads,
+            Choice::Writes => self.writes,
+            Choice::Both => self.reads.maximum(self.writes),
         }
     }
 
@@ -91,30 +83,25 @@ impl Session {
     }
 
     // The session after a read's reply: R raised to the maximum.
+    #[tactic(auto, unfolding(crate::specs::Session::after_read))]
     pub fn after_read(self, reply: Vector) -> Session
         ensures { result ≡ after_read self reply }
     {
-        let choice = self.choice;
-        let reads = self.reads;
-        let writes = self.writes;
         Session {
-            choice,
-            reads: reads.maximum(reply),
-            writes,
+            reads: self.reads.maximum(reply),
+            ..self
         }
     }
 
-    // The session after a write's reply: the other vector raised to the maximum.
+    // The session after a write's reply: the other vector raised to the maximum. A function for each vector, since callers choose
+    // by name which reply they have.
+    #[tactic(auto, unfolding(crate::specs::Session::after_write))]
     pub fn after_write(self, reply: Vector) -> Session
         ensures { result ≡ after_write self reply }
     {
-        let choice = self.choice;
-        let reads = self.reads;
-        let writes = self.writes;
         Session {
-            choice,
-            reads,
-            writes: writes.maximum(reply),
+            writes: self.writes.maximum(reply),
+            ..self
         }
     }
 
@@ -131,29 +118,4 @@ impl Session {
     {
         *self = self.after_write(reply);
     }
-
-    // What the next read's request carries.
-    pub fn carried(&self) -> Vector
-        ensures { result ≡ read_carries self.now }
-    {
-        self.read_carries()
-    }
-}
-
-// The session after a read's reply, for whoever holds it by value: it lies in a local and is raised there.
-pub fn raised_by(s: Session, reply: Vector) -> Session
-    ensures { result ≡ after_read s reply }
-{
-    let mut t = s;
-    t.raise(reply);
-    t
-}
-
-// The same after a write's reply.
-pub fn raised_by_write(s: Session, reply: Vector) -> Session
-    ensures { result ≡ after_write s reply }
-{
-    let mut t = s;
-    t.raise_written(reply);
-    t
 }

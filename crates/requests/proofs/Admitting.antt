@@ -1,14 +1,12 @@
 -- Laws of a request's refusals, row by row.
 -- Assumes nothing.
 use Prim.Native.Nat.{ℕ, ◌≤◌, ◌<◌}
-use mathlib.Core.Bool.{true, false, not, or-true}
+use mathlib.Core.Bool.{true, false}
 use mathlib.Core.Option.{none, some}
-use mathlib.Core.Path.{◌≡◌, ◌∙◌}
-use borrow.Author.Tests.{lt-ltb, le-ltb, lt-leb, le-leb, eq-eqb, ne_eqb}
+use mathlib.Core.Path.{◌≡◌, sym, subst, ◌∙◌}
+use borrow.Author.Tests.{lt-leb, le-leb}
 use lib.ListN.{length}
-use Rattle.notes.specs.Index.{phones}
-use Rattle.notes.specs.Vector.{behind, zero_from}
-use Rattle.notes.specs.Record.{cells}
+use Rattle.notes.specs.Vector.{behind}
 use Rattle.notes.specs.Reply.{first}
 use Rattle.notes.proofs.Answers.{first-stays, first-goes-on}
 use Rattle.notes.specs.declared.index.ServerId.{ServerId}
@@ -19,25 +17,10 @@ use Rattle.rules.specs.declared.answer.Refusal.{Refusal}
 use Rattle.rules.specs.declared.answer.Refusal.TheVariants.{OutOfRange, NotYet}
 use Rattle.rules.specs.Memory.{Memory}
 use Rattle.rules.specs.Answer.{head, is_down}
-use Rattle.rules.specs.Request.{plan, cell_of, out_of_range, full_refusals, ask_refusals, request_refusals, count_refusals, cut_refusals}
+use Rattle.rules.specs.Request.{plan, out_of_range, full_refusals, ask_refusals, request_refusals, count_refusals, cut_refusals}
+use Rattle.laws.proofs.Passed.{Admitted, admitted}
 
 module _ (m : Memory) (j : ServerId) (i : PhoneId) (q : Request) (v : Vector) where
-  pub range-elsewhere : (j.0 ≡ m.state.own.0 → ⊥) → out_of_range m j i q v ≡ true
-  range-elsewhere d = rw (ne_eqb j.0 m.state.own.0 d)
-
-  pub range-phone : phones ≤ i.0 → out_of_range m j i q v ≡ true
-  range-phone h = rw (le-ltb i.0 phones h, or-true)
-
-  pub range-cell : cells ≤ cell_of q → out_of_range m j i q v ≡ true
-  range-cell h = rw (le-ltb (cell_of q) cells h, or-true)
-
-  pub range-decides :
-      j.0 ≡ m.state.own.0
-      → i.0 < phones
-      → cell_of q < cells
-      → not (zero_from m.state.n v) ≡ out_of_range m j i q v
-  range-decides a b d = rw (eq-eqb j.0 m.state.own.0 a, lt-ltb i.0 phones b, lt-ltb (cell_of q) cells d)
-
   -- ---- the rows, one after the other
   pub request-refused : (k : Refusal) → first (head m (is_down m)) ≡ some k → first (request_refusals m j i q v) ≡ some k
   unfolding request_refusals
@@ -57,6 +40,14 @@ module _ (m : Memory) (j : ServerId) (i : PhoneId) (q : Request) (v : Vector) wh
 
       pub request-full : behind m.state.vector v ≡ false → first (request_refusals m j i q v) ≡ first (full_refusals m q)
       request-full b = goes_on ∙ rw (e, b)
+
+  -- what a memory that is lent passes, it is admitted to
+  module _ (lent : Memory) (same : lent ≡ m) (e : none ≡ first (request_refusals lent j i q v)) where
+    pub lent-passed : first (request_refusals m j i q v) ≡ none
+    lent-passed = subst (λ (m : Memory). first (request_refusals m j i q v) ≡ none) same (sym e)
+
+    pub lent-admitted : Admitted m i q
+    lent-admitted = admitted m j i q v lent-passed
 
   -- ---- the same cut
   module _ (k : ℕ) where

@@ -8,6 +8,8 @@ use mathlib.Core.Path.{◌≡◌, refl, ap, sym, ◌∙◌}
 use native.Mathlib.Omega.{arith}
 use lib.ListN.{length, take}
 use lib.Seq.{take_all, take-nil}
+use Rattle.std.proofs.Common.{Ok, Some, None}
+use Rattle.std.specs.Prelude.{Option as Maybe}
 use Rattle.notes.specs.Record.{record_size}
 use Rattle.notes.specs.declared.index.PhoneId.{PhoneId}
 use Rattle.notes.specs.declared.record.Record.{Record}
@@ -27,7 +29,6 @@ use Rattle.laws.proofs.Sound.{kept-few}
 use Rattle.laws.proofs.Open.{open_up}
 use Rattle.laws.proofs.Passed.{Admitted}
 use Rattle.laws.proofs.Reading.{ready-is}
-use Rattle.requests.specs.declared.winner.Won.{Won}
 use Rattle.requests.specs.Forms.{Room, winner_of, winner_value}
 
 -- ---- what is admitted has room
@@ -62,21 +63,15 @@ module _ (m : Memory) (i : PhoneId) (cell : ℕ) where
   unfolding ready due
   ready_of = refl
 
--- the answer by what the walk won is the reply
-won-reply :
-    (w : Option Record) (o : Won) (v : Vector)
+-- the answer by what the walk found is the reply
+found-reply :
+    (w : Option Record) (o : Maybe ℕ) (v : Vector)
     → winner_of o ≡ winner_value w
-    → answer_reply (cond o.some (answer.Value o.value) answer.NoNote) v ≡ value_of w v
-won-reply w o v e = go w o.some e
-  where
-    go :
-        (w : Option Record) (t : Bool)
-        → cond t (some o.value) none ≡ winner_value w
-        → answer_reply (cond t (answer.Value o.value) answer.NoNote) v ≡ value_of w v
-    go none true e = absurd (some-ne-none o.value e)
-    go none false e = refl
-    go (some r) true e = ap (λ (x : ℕ). value_reply x v) (some-injective o.value r.value e)
-    go (some r) false e = absurd (some-ne-none r.value (sym e))
+    → answer_reply (answer.Read o v) ≡ value_of w v
+found-reply none (Some x) v e = absurd (some-ne-none x e)
+found-reply none None v e = refl
+found-reply (some r) (Some x) v e = ap (λ (x : ℕ). value_reply x v) (some-injective x r.value e)
+found-reply (some r) None v e = absurd (some-ne-none r.value (sym e))
 
 -- ---- the stores
 
@@ -142,16 +137,11 @@ read-plan-all m i cell room =
 -- ---- served
 
 pub read-served :
-    (m : Memory) (i : PhoneId) (cell : ℕ) (o : Won)
+    (m : Memory) (i : PhoneId) (cell : ℕ) (o : Maybe ℕ)
     → winner_of o ≡ winner_value (winner cell (writes m))
     → effect_of
-    (record {
-      answer = cond o.some (answer.Value o.value) answer.NoNote;
-      vector = m.state.vector;
-      next = ready (memory m.state [] []) i (Read cell);
-    })
-    m.history
-    (stored m.image (plan m i (Read cell)))
+    (Ok (answer.Read o (ready (memory m.state [] []) i (Read cell)).vector))
+    (memory (ready (memory m.state [] []) i (Read cell)) m.history (stored m.image (plan m i (Read cell))))
     ≡ served m i (Read cell)
 unfolding served performed reply_to
 read-served m i cell o e =
@@ -159,5 +149,5 @@ read-served m i cell o e =
       ready_of m i cell,
       ap (λ (t : State). t.held) (ready-is m i (Read cell)),
       ap (λ (t : State). t.vector) (ready-is m i (Read cell)),
-      won-reply (winner cell (writes m)) o m.state.vector e,
+      found-reply (winner cell (writes m)) o m.state.vector e,
     )

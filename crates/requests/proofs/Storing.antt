@@ -1,6 +1,6 @@
 -- Laws of the first stores of a write and of a checkpoint.
 -- Assumes nothing.
-use Prim.Native.Nat.{ℕ, zero, suc, ◌+◌, ◌-◌, ◌*◌, ◌≤◌, ◌<◌, min}
+use Prim.Native.Nat.{ℕ, suc, ◌+◌, ◌-◌, ◌*◌, ◌≤◌, ◌<◌}
 use mathlib.Core.List.{List, [], ◌∷◌, ◌++◌}
 use mathlib.Core.Path.{◌≡◌, sym, ◌∙◌}
 use native.Mathlib.Omega.{arith}
@@ -11,13 +11,6 @@ use Rattle.notes.specs.declared.record.Record.{Record}
 use Rattle.rules.specs.Image.{checkpoint_field, log_field, checkpoint_place, log_place, Store, count, store, stored, byte_stores, write_plan, checkpoint_plan}
 use Rattle.laws.proofs.Stores.{cut-bytes}
 use Rattle.requests.specs.Forms.{Room, write_bytes_plan}
-
--- the first k, or all where there are fewer
-pub take-least : (k : ℕ) (l : List ℕ) → take (min k (length l)) l ≡ take k l
-take-least zero l = let e : min 0 (length l) ≡ 0 = omega arith in rw e
-take-least (suc k) [] = let e : min (suc k) 0 ≡ 0 = omega arith in rw e
-take-least (suc k) (x ∷ l) =
-    let e : min (suc k) (suc (length l)) ≡ suc (min k (length l)) = omega arith in rw (e, take-least k l)
 
 -- the plan over a record's bytes is the record's
 pub write-plan : (r : Record) (b : List ℕ) (logged : ℕ) → encode r ≡ b → write_plan r logged ≡ write_bytes_plan b logged

@@ -1,93 +1,77 @@
--- Laws of the walk to a cell's winner: one record more, and the end.
+-- Laws of the walk to a cell's winner: the cell's records kept, and the best of them.
 -- Assumes nothing.
-use Prim.Native.Nat.{ℕ, ◌+◌, ◌≤◌, ◌<◌}
+use Prim.Native.Nat.{ℕ}
 use mathlib.Core.Bool.{Bool, true, false, cond}
-use mathlib.Core.List.{List, [], ◌∷◌, ◌++◌}
+use mathlib.Core.List.{List, [], ◌∷◌, map}
 use mathlib.Core.Option.{Option, none, some}
-use mathlib.Core.Path.{◌≡◌, refl, ap, sym, ◌∙◌}
-use native.Mathlib.Omega.{arith}
-use borrow.Author.Tests.{eq-eqb, ne_eqb, lt-ltb, le-ltb}
+use mathlib.Core.Path.{◌≡◌, refl, ap, sym, subst, ◌∙◌}
+use denote.Param.Members.{Mut}
+use denote.Ref.{Bor}
 use lib.Dec.{eqb}
-use lib.ListN.{take}
-use lib.Seq.{take_all}
-use Rattle.notes.specs.Record.{decode, records, beats}
+use Rattle.std.proofs.Common.{Some, None}
+use Rattle.std.specs.Prelude.{Option as Maybe}
+use Rattle.std.specs.Fn.{Called}
+use Rattle.std.specs.Iterator.{ReducesItems, FoldTurn, Drains}
+use Rattle.std.specs.List.{FoldsTo, filter}
+use Rattle.std.proofs.lemmas.Iterator.{YieldsList, items_from_drains}
+use Rattle.notes.specs.Record.{decode, beats}
 use Rattle.notes.specs.declared.record.Record.{Record}
-use Rattle.notes.proofs.Lists.{take_more}
-use Rattle.notes.proofs.Records.{length-records, record-at}
-use Rattle.rules.specs.Writes.{keep_if, keep, better, best, winner}
-use Rattle.laws.proofs.Lists.{keep_append}
-use Rattle.requests.specs.Forms.{record_at, best_at, or_better, winner_value}
+use Rattle.rules.specs.Writes.{keep_if, keep, best, winner}
 
-best-append : (w : Option Record) (a b : List Record) → best w (a ++ b) ≡ best (best w a) b
-unfolding best
-best-append w [] b = refl
-best-append w (r ∷ a) b = best-append (better w r) a b
+-- what a reference to a record's bytes shows
+abbrev pub shown : Bor (List ℕ) → Record
+shown b = decode b.now
 
-module _ (c : ℕ) where
-  abbrev of_cell : Record → Bool
-  of_cell r = eqb r.cell c
+abbrev pub shown_by : Maybe (Bor (List ℕ)) → Option Record
+shown_by None = none
+shown_by (Some b) = some (shown b)
 
-  -- one record more
-  winner-more : (l : List Record) (r : Record) → winner c (l ++ r ∷ []) ≡ or_better c (winner c l) r
-  unfolding winner keep or_better best
-  winner-more l r =
-      rw (keep_append of_cell l (r ∷ []), best-append none (keep of_cell l)) (go (of_cell r))
-    where
-      go : (t : Bool) → best (winner c l) (keep_if t r []) ≡ cond t (better (winner c l) r) (winner c l)
-      go true = refl
-      go false = refl
+-- a test of records keeps bytes as it keeps what they are
+kept : (p : Record → Bool) (l : List (List ℕ)) → map decode (filter (λ b. p (decode b)) l) ≡ keep p (map decode l)
+unfolding keep
+kept p [] = refl
+kept p (b ∷ l) = go (p (decode b)) (kept p l)
+  where
+    go :
+        (t : Bool)
+        → map decode (filter (λ b. p (decode b)) l) ≡ keep p (map decode l)
+        → map decode (cond t (b ∷ filter (λ b. p (decode b)) l) (filter (λ b. p (decode b)) l)) ≡ keep_if t (decode b) (keep p (map decode l))
+    go true e = ap (λ l. decode b ∷ l) e
+    go false e = e
 
-  module _ (held : ℕ) (b : List ℕ) where
-    -- the best of the first k records, by its place
-    abbrev pub Leads : ℕ → ℕ → Type 0
-    Leads k p = best_at held b p ≡ winner c (take k (records held b))
+decoded-now : (l : List (Bor (List ℕ))) → map shown l ≡ map decode (map (λ b. b.now) l)
+decoded-now [] = refl
+decoded-now (b ∷ l) = ap (λ l. shown b ∷ l) (decoded-now l)
 
-    pub leads-none : Leads 0 held
-    unfolding best_at winner keep best
-    leads-none = rw (le-ltb held held (omega arith))
+-- over the cell's records as they come, the best is the winner
+walked :
+    {S : Type 0} {steps : S → Maybe (Bor (List ℕ)) → S → Type 0} {s : S} (c : ℕ) (l : List (List ℕ)) (xs : List (Bor (List ℕ)))
+    → Drains steps s xs
+    → YieldsList steps (λ b. b.now) s (filter (λ b. eqb (decode b).cell c) l)
+    → best none (map shown xs) ≡ winner c (map decode l)
+unfolding winner
+walked c l xs h e =
+    let items = items_from_drains xs (h.1.0, h.1.1, λ _. (h.0, h.1.2)) e in
+    ap (best none) (decoded-now xs ∙ ap (map decode) items ∙ kept (λ r. eqb r.cell c) l)
 
-    pub leads-more :
-        (k p q : ℕ)
-        → k < held
-        → Leads k p
-        → best_at held b q ≡ or_better c (best_at held b p) (record_at b k)
-        → Leads (k + 1) q
-    leads-more k p q h l e =
-        let more : take (k + 1) (records held b) ≡ take k (records held b) ++ record_at b k ∷ [] =
-        take_more (records held b) k (decode []) (rw length-records h)
-        ∙ ap (λ (r : Record). take k (records held b) ++ r ∷ []) (record-at held b k h) in
-        rw (e, l, more) (sym (winner-more (take k (records held b)) (record_at b k)))
+-- a closure that gives the better of two, of equals the first
+module _ {F : Type 0} (g : Mut F (Bor (List ℕ) × (Bor (List ℕ) × Unit {0})) (Bor (List ℕ))) (f : F) (turn : (a x r : Bor (List ℕ)) (q : F) → Called g f (a, (x, tt)) r q → (q ≡ f) × (shown r ≡ cond (beats (shown x) (shown a)) (shown x) (shown a))) where
+  turns :
+      (l : List (Bor (List ℕ))) (p q : F × Bor (List ℕ))
+      → p.0 ≡ f
+      → FoldsTo {P = F × Bor (List ℕ)} (FoldTurn g) p l q
+      → some (shown q.1) ≡ best (some (shown p.1)) (map shown l)
+  unfolding best
+  turns [] p q e h = sym (ap (λ (w : F × Bor (List ℕ)). some (shown w.1)) h)
+  turns (x ∷ l) p q e h =
+      let t = turn p.1 x h.0.1 h.0.0 (subst (λ w. Called g w (p.1, (x, tt)) h.0.1 h.0.0) e h.1) in
+      turns l h.0 q t.0 h.2 ∙ ap (λ (r : Record). best (some r) (map shown l)) t.1
 
-    module _ (k p : ℕ) (done : held ≤ k) (l : Leads k p) where
-      leads-all : best_at held b p ≡ winner c (records held b)
-      leads-all = rw (take_all k (records held b) (rw length-records done)) at l
-
-      pub won-none : held ≤ p → none ≡ winner_value (winner c (records held b))
-      unfolding best_at
-      won-none h = ap winner_value (rw (le-ltb p held h) at leads-all)
-
-      pub won-some : p < held → some (record_at b p).value ≡ winner_value (winner c (records held b))
-      unfolding best_at
-      won-some h = ap winner_value (rw (lt-ltb p held h) at leads-all)
-
-    -- ---- one record more, of another cell, or of the cell and better or not
-    module _ (p k : ℕ) where
-      pub other-cell : ((record_at b k).cell ≡ c → ⊥) → best_at held b p ≡ or_better c (best_at held b p) (record_at b k)
-      unfolding or_better
-      other-cell d = rw (ne_eqb (record_at b k).cell c d)
-
-      module _ (h : k < held) (same : (record_at b k).cell ≡ c) where
-        pub first-best : held ≤ p → best_at held b k ≡ or_better c (best_at held b p) (record_at b k)
-        unfolding or_better best_at
-        first-best m = rw (eq-eqb (record_at b k).cell c same, le-ltb p held m, lt-ltb k held h)
-
-        module _ (m : p < held) where
-          pub next-best :
-              beats (record_at b k) (record_at b p) ≡ true → best_at held b k ≡ or_better c (best_at held b p) (record_at b k)
-          unfolding or_better best_at
-          next-best e = rw (eq-eqb (record_at b k).cell c same, lt-ltb p held m, lt-ltb k held h, e)
-
-          pub still-best :
-              beats (record_at b k) (record_at b p) ≡ false → best_at held b p ≡ or_better c (best_at held b p) (record_at b k)
-          unfolding or_better best_at
-          still-best e = rw (eq-eqb (record_at b k).cell c same, lt-ltb p held m, e)
+  pub winner-walked :
+      {S : Type 0} {steps : S → Maybe (Bor (List ℕ)) → S → Type 0} {s : S} (c : ℕ) (l : List (List ℕ)) (r : Maybe (Bor (List ℕ)))
+      → ReducesItems steps g s f r
+      → YieldsList steps (λ b. b.now) s (filter (λ b. eqb (decode b).cell c) l)
+      → shown_by r ≡ winner c (map decode l)
+  unfolding best
+  winner-walked c l None h e = walked c l [] h e
+  winner-walked c l (Some y) h e = turns h.1 (f, h.0) (h.2, y) refl h.4 ∙ walked c l (h.0 ∷ h.1) h.3 e

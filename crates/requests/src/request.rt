@@ -1,79 +1,86 @@
 // A phone's request: served, or cut after some of its stores.
 ghost use Rattle.std.specs.Prelude.{◌≡◌, length};
+ghost use Rattle.memory.specs.Lent.{looked_at, server, Stays};
 ghost use Rattle.rules.specs.Memory.{memory};
-ghost use Rattle.rules.specs.Answer.{effect_of};
+ghost use Rattle.rules.specs.Answer.{effect_of, plain_effect};
 ghost use Rattle.rules.specs.Request.{plan, request as request_of, request_cut};
 ghost use Rattle.laws.proofs.Passed.{Admitted};
 
+use crate::write::Note;
 use crate::{admit, read, write};
-use memory::state;
-use notes::index::{PhoneId, ServerId};
-use notes::vector::Vector;
-use rules::answer::{Outcome, Refusal, Verdict};
-use rules::event::Request;
+use memory::lent::{Lent, Server};
+use notes::index::PhoneId;
+use rules::answer::{Outcome, Refusal};
+use rules::event::{Ask, Request};
 use rules::state::State;
 
 // A read or a write, served or refused.
-pub fn request(
-    s: State,
-    at: ServerId,
-    phone: PhoneId,
-    q: Request,
-    asked: Vector,
-    history: &mut [u8],
-    image: &mut [u8],
-) -> Outcome
-    ensures { effect_of result history.new image.new ≡ request_of (memory s history.old image.old) at phone q asked }
+pub fn request(m: &mut Server<'_, '_>, ask: Ask) -> Outcome
+    ensures stays { Stays m.old m.new }
+    ensures effect { effect_of result (server m.new) ≡ request_of (server m.old) ask.server ask.phone ask.request ask.vector }
 {
-    if let Verdict::Refused(k) = admit::request_head(s, at, phone, q, asked, history, image) {
-        return state::refused(k, s);
-    }
-    match q {
-        Request::Read { cell } => read::read(s, phone, cell, history, image),
+    admit::request_head(m.lent(), ask)?;
+    let phone = ask.phone;
+    Ok(match ask.request {
+        Request::Read { cell } => read::read(m, phone, cell),
         Request::Write { cell, value, time } => write::write(
-            s, phone, cell, value, time, history, image,
+            m,
+            Note {
+                phone,
+                cell,
+                value,
+                time,
+            },
         ),
-    }
+    })
 }
 
 // The same, cut after k stores. A request that would be refused gets that refusal; a count above its stores is 1.
 pub fn request_cut(
-    s: State,
-    at: ServerId,
-    phone: PhoneId,
-    q: Request,
-    k: u32,
-    asked: Vector,
+    s: &mut State,
     history: &[u8],
     image: &mut [u8],
-) -> Outcome
-    ensures { effect_of result history.now image.new ≡ request_cut (memory s history.now image.old) at phone q k asked }
+    ask: Ask,
+    k: u32,
+) -> Result<(), Refusal>
+    ensures { plain_effect result (memory s.new history.now image.new) ≡ request_cut (memory s.old history.now image.old) ask.server ask.phone ask.request k ask.vector }
 {
-    if let Verdict::Refused(refusal) = admit::request_head(s, at, phone, q, asked, history, image) {
-        return state::refused(refusal, s);
+    let lent = Lent {
+        state: s,
+        history,
+        image,
+    };
+    admit::request_head(lent, ask)?;
+    // `as`: the library has no From of u32 for usize.
+    let k = k as usize;
+    if stores_of(lent, ask.phone, ask.request) < k {
+        return Err(Refusal::OutOfRange);
     }
-    if stores_of(s, phone, q, history, image) < (k as usize) {
-        return state::refused(Refusal::OutOfRange, s);
-    }
-    match q {
-        Request::Read { cell } => read::read_cut(s, phone, cell, k as usize, history, image),
+    *s = match ask.request {
+        Request::Read { cell } => read::read_cut(*s, history, image, ask.phone, cell, k),
         Request::Write { cell, value, time } => write::write_cut(
-            s, phone, cell, value, time, k as usize, history, image,
+            *s,
+            history,
+            image,
+            Note {
+                phone: ask.phone,
+                cell,
+                value,
+                time,
+            },
+            k,
         ),
-    }
+    };
+    Ok(())
 }
 
-// How many stores a request makes.
-fn stores_of(s: State, phone: PhoneId, q: Request, history: &[u8], image: &[u8]) -> usize
-    requires { Admitted (memory s history.now image.now) phone q }
-    ensures { result ≡ length (plan (memory s history.now image.now) phone q) }
+// How many stores a request makes. That it is admitted stays a clause: the one caller has it from `request_head`.
+fn stores_of(m: Lent<'_>, phone: PhoneId, q: Request) -> usize
+    requires { Admitted (looked_at m) phone q }
+    ensures { result ≡ length (plan (looked_at m.entry) phone q) }
 {
     match q {
-        Request::Read { cell } => read::read_stores(s, phone, cell, history, image),
-        Request::Write {
-            cell: _,
-            value: _,
-            time: _,
-        } => write::STORES,
+        Request::Read { cell } => read::read_stores(m, phone, cell),
+        Request::Write { .. } => write::STORES,
     }
 }

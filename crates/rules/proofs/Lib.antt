@@ -5,4 +5,5 @@ pub mod Examples
 pub mod Further
 pub mod Layouts
 pub mod Looked
+pub mod Refusals
 pub mod Unique

@@ -1,20 +1,17 @@
 -- What calls answer, in document 01's numbers and values, and what every call on a server refuses first.
 -- Assumes nothing.
-use Rattle.std.specs.Prelude.{ℕ, List, [], ◌∷◌, ◌++◌, Bool, ◌||◌, not, ltb, eqb, length}
+use Rattle.std.specs.Prelude.{ℕ, List, [], ◌∷◌, ◌++◌, Bool, ◌||◌, not, ltb, eqb, length, Result, Ok, Err, Some, None}
 use Rattle.std.proofs.Math.Option.{Option, none, some}
+use Rattle.std.specs.Prelude.{Option as Maybe}
 use Rattle.notes.specs.Reply.{Reply, done, refused, given}
 use Rattle.notes.specs.Vector.{zeros}
 use Rattle.rules.specs.Writes.{Vector, ServerId}
 use Rattle.rules.specs.declared.answer.Answer.{Answer}
 use Rattle.rules.specs.declared.answer.Answer.TheVariants as answer
-use Rattle.rules.specs.declared.answer.Message.{Message}
-use Rattle.rules.specs.declared.answer.Message.TheVariants as message
-use Rattle.rules.specs.declared.answer.Outcome.{Outcome}
-use Rattle.rules.specs.declared.answer.Verdict.{Verdict}
-use Rattle.rules.specs.declared.answer.Verdict.TheVariants as verdict
-use Rattle.rules.specs.declared.answer.Status.{Status}
-use Rattle.rules.specs.declared.answer.Status.TheVariants as status
-use Rattle.rules.specs.Memory.{Memory, memory}
+use Rattle.rules.specs.declared.answer.Phones.{Phones}
+use Rattle.notes.specs.declared.message.Refusal.{Refusal as Told}
+use Rattle.notes.specs.declared.message.Refusal.TheVariants as told
+use Rattle.rules.specs.Memory.{Memory}
 use Rattle.rules.specs.Image.{history_size, image_size}
 use Rattle.rules.specs.Sound.{sound}
 pub use Rattle.rules.specs.declared.answer.Refusal.{Refusal}
@@ -36,6 +33,12 @@ refusal_number TooShort = 9
 abbrev pub refusal_reply : Refusal → Reply
 refusal_reply r = refused (refusal_number r)
 
+-- a refusal of the calls on messages and sessions, among these
+abbrev pub of_message : Told → Refusal
+of_message told.OutOfRange = OutOfRange
+of_message told.Malformed = Unsound
+of_message told.TooShort = TooShort
+
 -- ---- the steps' answers. Which it is, the count of values tells: eight for a write, nine for "no note", ten for a value
 
 -- the reply to a read: the value of the cell's winner, or "no note", with V
@@ -53,12 +56,17 @@ written_reply v = done v.counts
 abbrev pub done_reply : Reply
 done_reply = done []
 
-abbrev pub answer_reply : Answer → Vector → Reply
-answer_reply (answer.Value x) v = value_reply x v
-answer_reply answer.NoNote v = no_note_reply v
-answer_reply answer.Written v = written_reply v
-answer_reply answer.Done v = done_reply
-answer_reply (answer.Refused r) v = refusal_reply r
+abbrev pub answer_reply : Answer → Reply
+answer_reply (answer.Read (Some x) v) = value_reply x v
+answer_reply (answer.Read None v) = no_note_reply v
+answer_reply (answer.Written v) = written_reply v
+answer_reply answer.Done = done_reply
+
+-- V where the reply has it, and zeros elsewhere
+abbrev pub answer_vector : Answer → Vector
+answer_vector (answer.Read x v) = v
+answer_vector (answer.Written v) = v
+answer_vector answer.Done = zeros
 
 -- ---- what a step answers and leaves
 
@@ -68,16 +76,21 @@ pub record Effect : Type 0 where
   pub vector : Vector
   pub after : Memory
 
--- what a step's outcome and the two buffers after it are
-abbrev pub effect_of : Outcome → List ℕ → List ℕ → Effect
-effect_of o h i =
-    record { reply = answer_reply o.answer o.vector; vector = o.vector; after = memory o.next h i }
-
 abbrev pub replying : Reply → Vector → Memory → Effect
 replying r v m = record { reply = r; vector = v; after = m }
 
 abbrev pub finished : Memory → Effect
 finished m = replying done_reply zeros m
+
+-- what a step's answer and the memory after it are; a refusal has no vector
+abbrev pub effect_of : Result Answer Refusal → Memory → Effect
+effect_of (Ok a) m = replying (answer_reply a) (answer_vector a) m
+effect_of (Err r) m = replying (refusal_reply r) zeros m
+
+-- and of a step that answers only that it is done
+abbrev pub plain_effect : {A : Type 0} → Result A Refusal → Memory → Effect
+plain_effect (Ok a) m = finished m
+plain_effect (Err r) m = replying (refusal_reply r) zeros m
 
 -- a refusal returns its number only and changes nothing
 abbrev pub unless : Option Refusal → Memory → Effect → Effect
@@ -86,23 +99,24 @@ unless (some r) m e = replying (refusal_reply r) zeros m
 
 -- ---- the other calls' answers
 
-abbrev pub verdict_refusal : Verdict → Option Refusal
-verdict_refusal verdict.Passed = none
-verdict_refusal (verdict.Refused r) = some r
+-- tests pass, or give the first refusal
+abbrev pub verdict_refusal : {A : Type 0} → Result A Refusal → Option Refusal
+verdict_refusal (Ok a) = none
+verdict_refusal (Err r) = some r
 
-abbrev pub verdict_reply : Verdict → Reply
-verdict_reply verdict.Passed = done_reply
-verdict_reply (verdict.Refused r) = refusal_reply r
+abbrev pub verdict_reply : {A : Type 0} → Result A Refusal → Reply
+verdict_reply (Ok a) = done_reply
+verdict_reply (Err r) = refusal_reply r
 
-abbrev pub status_reply : Status → Reply
-status_reply status.Nobody = done (0 ∷ [])
-status_reply (status.Phones count lowest) = done (count ∷ lowest.0 ∷ [])
-status_reply (status.Refused r) = refusal_reply r
+abbrev pub status_reply : Result (Maybe Phones) Refusal → Reply
+status_reply (Ok None) = done (0 ∷ [])
+status_reply (Ok (Some phones)) = done (phones.count ∷ phones.lowest.0 ∷ [])
+status_reply (Err r) = refusal_reply r
 
 -- how many bytes of the output were filled
-abbrev pub message_reply : Message → Reply
-message_reply (message.Bytes k) = done (k ∷ [])
-message_reply (message.Refused r) = refusal_reply r
+abbrev pub message_reply : Result ℕ Refusal → Reply
+message_reply (Ok k) = done (k ∷ [])
+message_reply (Err r) = refusal_reply r
 
 -- ---- what every call on a server refuses first: 9 for history and image, 6 for state, 2
 

@@ -1,15 +1,17 @@
 -- The calls beside the step: judging, starting anew, status, look-up, the server's own message.
 -- Assumes nothing.
-use Rattle.std.specs.Prelude.{ℕ, suc, Bool, true, false, ◌&&◌, not, List, [], ◌∷◌, ◌++◌, ltb, eqb, length, take, drop, replicate}
+use Rattle.std.specs.Prelude.{ℕ, suc, Bool, true, false, ◌&&◌, not, List, [], ◌∷◌, ◌++◌, ltb, eqb, length, take, drop, replicate, Result, Ok, Err, Some, None}
 use Rattle.std.proofs.Math.Option.{Option, none, some, map}
+use Rattle.std.specs.Prelude.{Option as Maybe}
+use Rattle.std.specs.Borrow.{Bor}
 use Rattle.notes.specs.Reply.{Reply, done, Filled, given, or_else, first, fill}
 use Rattle.notes.specs.Index.{server_ok}
+use Rattle.notes.specs.Vector.{zeros}
 use Rattle.notes.specs.Record.{record_size, number}
 use Rattle.notes.specs.Message.{message_size, message_of}
-use Rattle.rules.specs.declared.answer.Message.{Message}
-use Rattle.rules.specs.Answer.{Refusal, OutOfRange, Unsound, TooShort, Effect, refusal_reply, done_reply, finished, unless, message_reply, short, judged, head, is_down}
+use Rattle.rules.specs.Answer.{Refusal, OutOfRange, Unsound, TooShort, Effect, refusal_reply, done_reply, replying, finished, unless, message_reply, short, judged, head, is_down}
 use Rattle.rules.specs.Writes.{ServerId, Record, server}
-use Rattle.rules.specs.Memory.{PhoneId, members, Memory, memory, blank, writes}
+use Rattle.rules.specs.Memory.{PhoneId, State, members, Memory, memory, blank, writes}
 use Rattle.rules.specs.Image.{history_size, image_size, image_n, image_own, checkpoint_place, log_place, checkpoint, log, fresh_image}
 use Rattle.rules.specs.Sound.{suits}
 
@@ -30,9 +32,14 @@ unfoldable pub fresh : ℕ → ServerId → List ℕ → List ℕ → Memory
 fresh n own h i =
     memory (blank true n own) (replicate history_size 0 ++ drop history_size h) (fresh_image n own ++ drop image_size i)
 
--- a refusal returns the state of no server, which suits no buffers
+-- where a start is refused there is the memory of no server, whose state suits no buffers
 abbrev pub no_server : List ℕ → List ℕ → Memory
 no_server h i = memory (blank false 0 (server 0)) h i
+
+-- what a start answers, and the buffers after it
+abbrev pub start_effect : Result State Refusal → List ℕ → List ℕ → Effect
+start_effect (Ok s) h i = finished (memory s h i)
+start_effect (Err r) h i = replying (refusal_reply r) zeros (no_server h i)
 
 abbrev pub start_refusal : ℕ → ServerId → List ℕ → List ℕ → Option Refusal
 start_refusal n own h i = first (given (short (no_server h i)) TooShort ∷ given (not (server_ok n own)) OutOfRange ∷ [])
@@ -85,13 +92,15 @@ look_up_refusal i o =
 unfoldable pub look_up : List ℕ → ServerId → ℕ → Reply
 look_up i o k = reply_unless (look_up_refusal i o) (done (bytes_at i (stands_at i o k)))
 
--- a look-up's answer: a number beside a part of the image
-abbrev pub found : ℕ → List ℕ → Reply
-found k part = record { number = k; values = part }
+-- what a look-up answers: a part of the image, or none for "not there"
+abbrev pub found : Result (Maybe (Bor (List ℕ))) Refusal → Reply
+found (Ok None) = done []
+found (Ok (Some part)) = done part.now
+found (Err r) = refusal_reply r
 
 -- ---- the server's own update message, into an output
 
-abbrev pub message_filled : Message → List ℕ → Filled
+abbrev pub message_filled : Result ℕ Refusal → List ℕ → Filled
 message_filled a out = record { reply = message_reply a; output = out }
 
 unfoldable pub own_message : Memory → List ℕ

@@ -2,46 +2,50 @@
 -- Assumes nothing.
 use Prim.Native.Nat.{ℕ, suc, ◌+◌, ◌-◌, ◌*◌, ◌≤◌, ◌<◌, max}
 use mathlib.Core.Bool.{Bool, true, false, cond}
-use mathlib.Core.List.{List, [], ◌∷◌, flat_map}
+use mathlib.Core.List.{List, [], ◌∷◌, map, flat_map}
 use mathlib.Core.Option.{Option, none, some, some-ne-none}
 use mathlib.Core.Path.{◌≡◌, refl, ap, sym, ◌∙◌}
 use native.Mathlib.Nat.{add-zero, zero-add}
 use native.Mathlib.Omega.{arith}
 use borrow.Author.Tests.{ltb-true, lt-ltb, le-leb, lt-leb, eq-eqb, ne_eqb}
 use lib.Dec.{leb, eqb}
-use lib.ListN.{length, get_or, take, drop, set, drop_of_length-le}
+use lib.ListN.{length, get_or, drop, set}
 use lib.Seq.{sets, length-sets}
 use Rattle.notes.specs.Lists.{every}
 use Rattle.notes.specs.Index.{servers}
 use Rattle.notes.specs.Vector.{vector, at, raised}
-use Rattle.notes.specs.Record.{record_size, number, well_formed, records, record_bytes}
+use Rattle.notes.specs.Record.{record_size, stamp_at, decode, encode, number, well_formed, record_bytes}
 use Rattle.notes.specs.declared.index.ServerId.{ServerId}
 use Rattle.notes.specs.declared.record.Record.{Record}
 use Rattle.notes.specs.declared.vector.Vector.{Vector}
 use Rattle.notes.proofs.Lists.{both, sets-append}
-use Rattle.notes.proofs.Numbers.{AllBelow, below-take, below-drop}
-use Rattle.notes.proofs.Records.{length-records, encode-decode}
+use Rattle.notes.proofs.Numbers.{from_one}
+use Rattle.notes.proofs.Records.{length-encode}
+use Rattle.notes.proofs.Vectors.{length-vector_from}
 use Rattle.rules.specs.declared.answer.Refusal.{Refusal}
 use Rattle.rules.specs.declared.answer.Refusal.TheVariants.{Gap, OwnAhead}
 use Rattle.rules.specs.Step.{Turn, skipped, appended, refuses, at_turn, vector_after, Taken, and_then, taken}
 use Rattle.laws.proofs.Lists.{every_drop, every-weaker}
 use Rattle.laws.proofs.Sound.{formed-origin}
-use Rattle.server.specs.Forms.{origin_ok, Listed, Seen, seen, ahead}
-use Rattle.memory.proofs.Walks.{this, origin, origin-at, lent-part}
-use Rattle.memory.proofs.Runs.{next-record, part-size}
+use Rattle.memory.proofs.Listed.{listed-done, listed-rest}
+use Rattle.server.specs.Forms.{origin_ok, Listed, ended, seen, ahead}
 
 -- records well formed for some of the eight have origins of the eight
 pub formed-origins : (n : ℕ) (rs : List Record) → n ≤ servers → every (well_formed n) rs ≡ true → every origin_ok rs ≡ true
 formed-origins n rs few =
     every-weaker (well_formed n) origin_ok (λ r w. lt-ltb r.origin.0 servers (omega (arith, formed-origin n r w))) rs
 
--- nothing more is taken
-abbrev ends : Vector → Option Refusal → Taken
-ends v k = record { new = []; vector = v; refusal = k }
+-- a record's first byte is its origin
+pub origin-is : (w : List ℕ) → (decode w).origin ≡ record { 0 = get_or w 0 0 }
+unfolding decode
+origin-is w = λ j. record { 0 = from_one 0 w j }
 
 -- some new ones stand before what is seen
-abbrev pub seen_behind : ℕ → Taken → Seen
-seen_behind k t = record { new = k + length t.new; vector = t.vector; refusal = t.refusal }
+abbrev pub seen_behind : ℕ → Taken → Option Refusal × ℕ × Vector
+seen_behind k t = ended t.refusal (k + length t.new) t.vector
+
+pub none-taken : (t : Taken) → seen t ≡ seen_behind 0 t
+none-taken t = rw zero-add
 
 abbrev above : Vector → Record → Type 0
 above v r = at v r.origin < number r
@@ -52,135 +56,99 @@ module _ (own : ServerId) (v : Vector) (r : Record) (rs : List Record) where
   unfolding taken at_turn
   skips h = rw (le-leb (number r) (at v r.origin) h)
 
-  module _ (h : above v r) where
-    own-ahead : r.origin.0 ≡ own.0 → taken own v (r ∷ rs) ≡ ends v (some OwnAhead)
+  module _ (h : above v r) (k : ℕ) where
+    own-ahead : eqb r.origin.0 own.0 ≡ true → seen_behind k (taken own v (r ∷ rs)) ≡ ended (some OwnAhead) 0 v
     unfolding taken at_turn
-    own-ahead e = rw (lt-leb (number r) (at v r.origin) h, eq-eqb r.origin.0 own.0 e)
+    own-ahead e = rw (lt-leb (number r) (at v r.origin) h, e)
 
-    module _ (other : r.origin.0 ≡ own.0 → ⊥) where
-      gap : (number r ≡ at v r.origin + 1 → ⊥) → taken own v (r ∷ rs) ≡ ends v (some Gap)
+    module _ (other : eqb r.origin.0 own.0 ≡ false) where
+      gap : (number r ≡ at v r.origin + 1 → ⊥) → seen_behind k (taken own v (r ∷ rs)) ≡ ended (some Gap) 0 v
       unfolding taken at_turn
       gap e =
           rw (
             lt-leb (number r) (at v r.origin) h,
-            ne_eqb r.origin.0 own.0 other,
+            other,
             ne_eqb (number r) (at v r.origin + 1) e,
           )
 
       appends :
           number r ≡ at v r.origin + 1
-          → (k : ℕ)
           → seen_behind k (taken own v (r ∷ rs)) ≡ seen_behind (k + 1) (taken own (raised v r.origin (number r)) rs)
       unfolding taken at_turn
-      appends e k =
+      appends e =
           let t = taken own (raised v r.origin (number r)) rs in
           let m : k + suc (length t.new) ≡ k + 1 + length t.new = omega arith in
           rw (
             lt-leb (number r) (at v r.origin) h,
-            ne_eqb r.origin.0 own.0 other,
+            other,
             eq-eqb (number r) (at v r.origin + 1) e,
           )
-          (ap {B = Seen} (λ (n : ℕ). record { new = n; vector = t.vector; refusal = t.refusal }) m)
+          (ap (λ (n : ℕ). ended t.refusal n t.vector) m)
 
--- ---- record k of some bytes
-pub none-taken :
-    (b : List ℕ) (count : ℕ) (own : ServerId) (v : Vector)
-    → seen (taken own v (records count b)) ≡ seen_behind 0 (taken own v (drop 0 (records count b)))
-none-taken b count own v = rw zero-add
+-- ---- record k of some
+abbrev this : List (List ℕ) → ℕ → Record
+this b k = decode (get_or b k [])
 
-module _ (b : List ℕ) (count k : ℕ) where
-  module _ (w : Listed b count) (h : k < count) where
-    pub listed-origin : origin 0 count b k < servers
-    unfolding every
-    listed-origin =
-        let r = this 0 count b k in
-        let e = rw (next-record 0 r.origin b count k h) at (every_drop origin_ok k (records count b) w.origins) in
-        omega (arith, ltb-true r.origin.0 servers (both (origin_ok r) _ e).0, origin-at 0 count b k)
+-- the byte that is its origin
+abbrev byte : List (List ℕ) → ℕ → ℕ
+byte b k = get_or (get_or b k []) 0 0
 
-    -- the record as it is lent has a number
-    pub listed-part :
-        let part = take (record_size * k + record_size - record_size * k) (drop (record_size * k) b) in
-        (record_size ≤ length part) × (get_or part 0 0 < servers)
-    listed-part = lent-part b count k w.long h listed-origin
+abbrev from : List (List ℕ) → ℕ → List Record
+from b k = drop k (map decode b)
 
-  module _ (v : Vector) where
-    abbrev r : Record
-    r = this 0 count b k
+pub all-taken :
+    (b : List (List ℕ)) (k : ℕ) → length b ≤ k → (v : Vector) (own : ServerId) (new : ℕ) → seen_behind new (taken own v (from b k)) ≡ ended none new v
+unfolding taken
+all-taken b k h v own new = rw (listed-done b k h, add-zero)
 
-    abbrev o : ℕ
-    o = origin 0 count b k
+module _ (b : List (List ℕ)) (k : ℕ) (h : k < length b) where
+  next : from b k ≡ this b k ∷ from b (k + 1)
+  next = listed-rest b k h []
 
-    abbrev known : ℕ
-    known = get_or v.counts o 0
+  -- its number can be read
+  pub listed-item :
+      Listed b
+      → ((i : ℕ) → i < length b → length (get_or b i []) ≡ record_size)
+      → (record_size ≤ length (get_or b k [])) × (byte b k < servers)
+  unfolding every
+  listed-item w long =
+      let e = rw next at (every_drop origin_ok k (map decode b) w) in
+      let o : (this b k).origin.0 ≡ byte b k = ap (λ (s : ServerId). s.0) (origin-is (get_or b k [])) in
+      (omega (arith, long k h), omega (arith, ltb-true (this b k).origin.0 servers (both (origin_ok (this b k)) _ e).0))
 
-    abbrev rest : List Record
-    rest = drop (k + 1) (records count b)
-
-    -- V with the count of its origin at its number
-    abbrev after : Vector
-    after = vector (set v.counts o (number r))
-
-    -- its origin's count, by the byte where it begins
-    counted : at v r.origin ≡ known
-    counted = ap (λ (x : ℕ). get_or v.counts x 0) (origin-at 0 count b k)
-
-    raised_at : known < number r → raised v r.origin (number r) ≡ after
-    unfolding raised
-    raised_at high =
-        let m : max (at v r.origin) (number r) ≡ number r = omega (arith, counted) in
-        rw m (ap (λ (x : ℕ). vector (set v.counts x (number r))) (origin-at 0 count b k))
-
-    ahead-all : count ≤ k → ahead v (drop k (records count b)) ≡ []
-    unfolding ahead
-    ahead-all h = rw (drop_of_length-le (records count b) {i = k} (rw length-records h))
-
-    module _ (h : k < count) where
-      next : drop k (records count b) ≡ r ∷ rest
-      next = next-record 0 r.origin b count k h
-
-      ahead-skips : number r ≤ known → ahead v (drop k (records count b)) ≡ ahead v rest
-      unfolding ahead
-      ahead-skips low = rw (next, le-leb (number r) (at v r.origin) (omega (arith, counted)))
-
-      ahead_more : known < number r → ahead v (drop k (records count b)) ≡ r ∷ ahead after rest
-      unfolding ahead
-      ahead_more high =
-          rw (next, lt-leb (number r) (at v r.origin) (omega (arith, counted)), raised_at high)
+  -- the count that V has of its origin, and its number
+  module _
+      (v : Vector) (known n : ℕ)
+      (counted : known ≡ at v (record { 0 = byte b k }))
+      (numbered : n ≡ number (this b k)) where
+    known-is : known ≡ at v (this b k).origin
+    known-is = counted ∙ ap (at v) (sym (origin-is (get_or b k [])))
 
     module _ (own : ServerId) where
       abbrev pub left : Taken
-      left = taken own v (drop k (records count b))
+      left = taken own v (from b k)
 
-      pub all-taken : count ≤ k → (new : ℕ) → record { new = new; vector = v; refusal = none } ≡ seen_behind new left
-      unfolding taken
-      all-taken h new = rw (drop_of_length-le (records count b) {i = k} (rw length-records h), add-zero)
+      pub skips-at : n ≤ known → left ≡ taken own v (from b (k + 1))
+      skips-at low = rw next (skips own v (this b k) (from b (k + 1)) (omega (arith, known-is, numbered)))
 
-      module _ (h : k < count) where
-        pub skips-at : number r ≤ known → left ≡ taken own v rest
-        skips-at low = rw (next h) (skips own v r rest (omega (arith, counted)))
+      module _ (high : known < n) (new : ℕ) where
+        higher : above v (this b k)
+        higher = omega (arith, known-is, numbered)
 
-        module _ (high : known < number r) where
-          pub own_at : o ≡ own.0 → (new : ℕ) → record { new = new; vector = v; refusal = some OwnAhead } ≡ seen_behind new left
-          own_at e new =
-              rw (next h, own-ahead own v r rest (omega (arith, counted)) (origin-at 0 count b k ∙ e), add-zero)
+        pub own_at : eqb (byte b k) own.0 ≡ true → seen_behind new left ≡ ended (some OwnAhead) 0 v
+        own_at e = rw next (own-ahead own v (this b k) (from b (k + 1)) higher new (rw origin-is e))
 
-          module _ (other : o ≡ own.0 → ⊥) where
-            differs : r.origin.0 ≡ own.0 → ⊥
-            differs q = other (sym (origin-at 0 count b k) ∙ q)
+        module _ (other : eqb (byte b k) own.0 ≡ false) where
+          differs : eqb (this b k).origin.0 own.0 ≡ false
+          differs = rw origin-is other
 
-            pub gap_at :
-                (number r ≡ known + 1 → ⊥) → (new : ℕ) → record { new = new; vector = v; refusal = some Gap } ≡ seen_behind new left
-            gap_at e new =
-                rw (
-                  next h,
-                  gap own v r rest (omega (arith, counted)) differs (λ q. e (omega (arith, counted, q))),
-                  add-zero,
-                )
+          pub gap_at : (n - known ≡ 1 → ⊥) → seen_behind new left ≡ ended (some Gap) 0 v
+          gap_at e = rw next (gap own v (this b k) (from b (k + 1)) higher new differs (λ q. e (omega (arith, known-is, numbered, q))))
 
-            pub appends-at : number r ≡ known + 1 → (new : ℕ) → seen_behind new left ≡ seen_behind (new + 1) (taken own (raised v r.origin (number r)) rest)
-            appends-at e new =
-                rw (next h)
-                (appends own v r rest (omega (arith, counted)) differs (omega (arith, counted)) new)
+          pub appends-at :
+              n - known ≡ 1
+              → seen_behind new left ≡ seen_behind (new + 1) (taken own (raised v (this b k).origin (number (this b k))) (from b (k + 1)))
+          appends-at e = rw next (appends own v (this b k) (from b (k + 1)) higher new differs (omega (arith, known-is, numbered)))
 
 -- ---- the bytes of new writes
 
@@ -212,52 +180,58 @@ taken-ahead own v (r ∷ rs) e =
     go false false true a b e = ap (λ (l : List Record). r ∷ l) (b e)
     go false false false a b e = absurd (some-ne-none Gap e)
 
--- a record's part stored, and the others behind it
+-- a record stored, and the others behind it
 stored_more :
-    (b : List ℕ) (k : ℕ)
-    → record_size * (k + 1) ≤ length b
-    → AllBelow 256 b
-    → (l : List ℕ) (end : ℕ) (rs : List Record)
-    → sets l end (record_bytes (this 0 0 b k ∷ rs)) ≡ sets (sets l end (take record_size (drop (record_size * k) b))) (end + record_size) (record_bytes rs)
-unfolding record_bytes flat_map
-stored_more b k h low l end rs =
-    let part = take record_size (drop (record_size * k) b) in
-    let size = part-size b k h in
-    rw (
-      encode-decode part size (below-take record_size (drop (record_size * k) b) (below-drop (record_size * k) b low)),
-      sets-append l part (record_bytes rs) end,
-      size,
-    )
+    (w : List ℕ) (l : List ℕ) (end : ℕ) (rs : List Record)
+    → sets l end (record_bytes (decode w ∷ rs)) ≡ sets (sets l end (encode (decode w))) (end + record_size) (record_bytes rs)
+unfolding record_bytes flat_map decode
+stored_more w l end rs =
+    rw (sets-append l (encode (decode w)) (record_bytes rs) end, length-encode (decode w) (length-vector_from (drop stamp_at w)))
 
 -- record by record: what is left to store gives the whole, and has room
-module _ (b : List ℕ) (count : ℕ) (whole : List ℕ) where
+module _ (b : List (List ℕ)) (whole : List ℕ) where
   pub record Copied (k : ℕ) (v : Vector) (l : List ℕ) (end : ℕ) : Type 0 where
-    pub room : end + record_size * length (ahead v (drop k (records count b))) ≤ length l
-    pub goes : sets l end (record_bytes (ahead v (drop k (records count b)))) ≡ whole
+    pub room : end + record_size * length (ahead v (from b k)) ≤ length l
+    pub goes : sets l end (record_bytes (ahead v (from b k))) ≡ whole
 
   module _ (k : ℕ) (v : Vector) (l : List ℕ) (end : ℕ) (s : Copied k v l end) where
-    pub copied_all : count ≤ k → l ≡ whole
-    unfolding record_bytes flat_map
-    copied_all h = rw (ahead-all b count k v h) at s.goes
+    pub copied_all : length b ≤ k → l ≡ whole
+    unfolding ahead record_bytes flat_map
+    copied_all h = rw (listed-done b k h) at s.goes
 
-    module _ (h : k < count) where
-      pub copied-skips : number (r b count k v) ≤ known b count k v → Copied (k + 1) v l end
+    module _ (h : k < length b) (n : ℕ) (numbered : n ≡ number (this b k)) where
+      counted : at v (this b k).origin ≡ get_or v.counts (byte b k) 0
+      counted = ap (at v) (origin-is (get_or b k []))
+
+      pub copied-skips : n ≤ get_or v.counts (byte b k) 0 → Copied (k + 1) v l end
+      unfolding ahead
       copied-skips low =
-          let e = ahead-skips b count k v h low in
+          let e : ahead v (from b k) ≡ ahead v (from b (k + 1)) =
+          rw (next b k h, le-leb (number (this b k)) (at v (this b k).origin) (omega (arith, counted, numbered))) in
           record { room = rw e at s.room; goes = rw e at s.goes }
 
-      module _ (high : known b count k v < number (r b count k v)) where
-        pub copied-room : end + record_size ≤ length l
-        copied-room = let q = rw (ahead_more b count k v h high) at s.room in omega arith
+      module _ (high : get_or v.counts (byte b k) 0 < n) where
+        -- V with the count of its origin at its number
+        abbrev after : Vector
+        after = vector (set v.counts (byte b k) n)
 
-        pub copied_more :
-            record_size * count ≤ length b
-            → AllBelow 256 b
-            → Copied (k + 1) (after b count k v) (sets l end (take record_size (drop (record_size * k) b))) (end + record_size)
-        copied_more fits low =
-            let e = ahead_more b count k v h high in
-            let q = rw e at s.room in
+        raised_at : raised v (this b k).origin (number (this b k)) ≡ after
+        unfolding raised
+        raised_at =
+            let m : max (at v (this b k).origin) (number (this b k)) ≡ n = omega (arith, counted, numbered) in
+            rw m (ap (λ (x : ServerId). vector (set v.counts x.0 n)) (origin-is (get_or b k [])))
+
+        ahead_more : ahead v (from b k) ≡ this b k ∷ ahead after (from b (k + 1))
+        unfolding ahead
+        ahead_more = rw (next b k h, lt-leb (number (this b k)) (at v (this b k).origin) (omega (arith, counted, numbered)), raised_at)
+
+        pub copied-room : end + record_size ≤ length l
+        copied-room = let q = rw ahead_more at s.room in omega arith
+
+        pub copied_more : Copied (k + 1) (vector (set v.counts (byte b k) n)) (sets l end (encode (this b k))) (end + record_size)
+        copied_more =
+            let q = rw ahead_more at s.room in
             record {
               room = rw length-sets (omega arith);
-              goes = sym (stored_more b k (omega arith) low l end _) ∙ rw e at s.goes;
+              goes = sym (stored_more (get_or b k []) l end _) ∙ rw ahead_more at s.goes;
             }

@@ -1,21 +1,21 @@
 // A plain cut: the server is down, and nothing is stored.
 ghost use Rattle.std.specs.Prelude.{◌≡◌};
-ghost use Rattle.rules.specs.Memory.{memory};
-ghost use Rattle.rules.specs.Answer.{effect_of};
+ghost use Rattle.memory.specs.Lent.{server, Stays};
+ghost use Rattle.rules.specs.Answer.{plain_effect};
 ghost use Rattle.rules.specs.Step.{cut as cut_of};
 
 use crate::here;
-use memory::{head, state};
+use memory::head;
+use memory::lent::Server;
 use notes::index::ServerId;
-use rules::answer::{Outcome, Verdict};
-use rules::state::State;
+use rules::answer::Refusal;
 
-pub(crate) fn cut(s: State, at: ServerId, history: &[u8], image: &[u8]) -> Outcome
-    ensures { effect_of result history.now image.now ≡ cut_of (memory s history.now image.now) at }
+pub(crate) fn cut(m: &mut Server<'_, '_>, at: ServerId) -> Result<(), Refusal>
+    ensures stays { Stays m.old m.new }
+    ensures effect { plain_effect result (server m.new) ≡ cut_of (server m.old) at }
 {
-    let told = head::up_head(s, history, image);
-    if let Verdict::Refused(k) = here::or_elsewhere(told, s, at) {
-        return state::refused(k, s);
-    }
-    state::finished(state::down(s))
+    head::up_head(m.lent())?;
+    here::here(&m.state, at)?;
+    m.state = m.state.down();
+    Ok(())
 }

@@ -1,21 +1,21 @@
 // Recovery: from the image, a server that is down is up again.
 ghost use Rattle.std.specs.Prelude.{◌≡◌};
-ghost use Rattle.rules.specs.Memory.{memory};
-ghost use Rattle.rules.specs.Answer.{effect_of};
+ghost use Rattle.memory.specs.Lent.{server, Stays};
+ghost use Rattle.rules.specs.Answer.{plain_effect};
 ghost use Rattle.rules.specs.Step.{recovery as recovery_of};
 
 use crate::{here, recover};
-use memory::{head, state};
+use memory::head;
+use memory::lent::Server;
 use notes::index::ServerId;
-use rules::answer::{Outcome, Verdict};
-use rules::state::State;
+use rules::answer::Refusal;
 
-pub(crate) fn recovery(s: State, at: ServerId, history: &mut [u8], image: &[u8]) -> Outcome
-    ensures { effect_of result history.new image.now ≡ recovery_of (memory s history.old image.now) at }
+pub(crate) fn recovery(m: &mut Server<'_, '_>, at: ServerId) -> Result<(), Refusal>
+    ensures stays { Stays m.old m.new }
+    ensures effect { plain_effect result (server m.new) ≡ recovery_of (server m.old) at }
 {
-    let told = head::down_head(s, history, image);
-    if let Verdict::Refused(k) = here::or_elsewhere(told, s, at) {
-        return state::refused(k, s);
-    }
-    state::finished(recover::recover(history, image, s.n, s.own))
+    head::down_head(m.lent())?;
+    here::here(&m.state, at)?;
+    recover::recover(m);
+    Ok(())
 }

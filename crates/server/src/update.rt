@@ -2,87 +2,73 @@
 ghost use Rattle.std.specs.Prelude.{◌≡◌, ◌+◌, ◌≤◌, []};
 ghost use Rattle.notes.specs.Message.{history_most};
 ghost use Rattle.notes.specs.Reply.{first};
+ghost use Rattle.memory.specs.Lent.{looked_at, server, Stays};
 ghost use Rattle.rules.specs.Memory.{memory, holding};
-ghost use Rattle.rules.specs.Answer.{effect_of};
+ghost use Rattle.rules.specs.Answer.{plain_effect, verdict_refusal};
 ghost use Rattle.rules.specs.Step.{suitable as suitable_of, arrival_refusals, update as update_of};
-ghost use Rattle.rules.specs.Answer.{verdict_refusal};
 
 use crate::{here, take};
-use memory::{head, state};
+use memory::head;
+use memory::lent::{Lent, Server};
 use notes::index::ServerId;
-use notes::message;
-use notes::message::{Checked, Header};
+use notes::message::Header;
 use notes::record::Record;
 use notes::vector::Vector;
-use rules::answer::{Outcome, Refusal, Verdict};
+use notes::{message, record};
+use rules::answer::Refusal;
 use rules::state::State;
 
 // The message is right, of the server's own N, and from another server.
-fn suitable(s: State, message: &[u8]) -> bool
-    ensures { result ≡ suitable_of (memory s [] []) message.now }
+fn suitable(s: &State, message: &[u8]) -> bool
+    ensures { result ≡ suitable_of (memory s.now [] []) message.now }
 {
-    let Checked::Update(h) = message::check(message) else {
-        return false;
-    };
-    if h.n != s.n {
-        return false;
+    match message::check(message) {
+        Ok(said) => said.n == s.n && said.sender != s.own,
+        Err(_) => false,
     }
-    let sender = h.sender;
-    let own = s.own;
-    sender.0 != own.0
 }
 
 // What a message is refused for before its writes are looked at.
-fn arrival(s: State, at: ServerId, message: &[u8], history: &[u8], image: &[u8]) -> Verdict
-    ensures { verdict_refusal result ≡ first (arrival_refusals (memory s history.now image.now) at message.now) }
+fn arrival(m: Lent<'_>, at: ServerId, message: &[u8]) -> Result<(), Refusal>
+    ensures { verdict_refusal result ≡ first (arrival_refusals (looked_at m.entry) at message.now) }
 {
-    let told = head::up_head(s, history, image);
-    if let Verdict::Refused(k) = here::or_elsewhere(told, s, at) {
-        return Verdict::Refused(k);
+    head::up_head(m)?;
+    here::here(m.state, at)?;
+    if !suitable(m.state, message) {
+        return Err(Refusal::Unsound);
     }
-    if !suitable(s, message) {
-        return Verdict::Refused(Refusal::Unsound);
-    }
-    Verdict::Passed
+    Ok(())
 }
 
+// The state after. By `as`, since a usize becomes a u16 by no `From`; the clause says that it fits.
 fn taken(s: State, new: usize, vector: Vector) -> State
     requires { s.held + new ≤ history_most }
     ensures { result ≡ holding (s.held + new) vector s }
 {
-    let mut t = s;
-    t.held = s.held + (new as u16);
-    t.vector = vector;
-    t
+    State {
+        held: s.held + (new as u16),
+        vector,
+        ..s
+    }
 }
 
-pub(crate) fn update(
-    s: State,
-    at: ServerId,
-    message: &[u8],
-    history: &mut [u8],
-    image: &[u8],
-) -> Outcome
-    ensures { effect_of result history.new image.now ≡ update_of (memory s history.old image.now) at message.now }
+pub(crate) fn update(m: &mut Server<'_, '_>, at: ServerId, message: &[u8]) -> Result<(), Refusal>
+    ensures stays { Stays m.old m.new }
+    ensures effect { plain_effect result (server m.new) ≡ update_of (server m.old) at message.now }
 {
-    if let Verdict::Refused(k) = arrival(s, at, message, history, image) {
-        return state::refused(k, s);
-    }
-    let count = (message.len() - Header::LEN) / Record::LEN;
-    let found = take::in_turn(&message[Header::LEN..], count, s.own, s.vector);
-    let refusal = found.refusal;
-    if let Verdict::Refused(k) = refusal {
-        return state::refused(k, s);
-    }
-    let held = s.held as usize;
+    arrival(m.lent(), at, message)?;
+    let body = &message[Header::LEN..];
+    let records = record::raw::first_records(body, body.len() / Record::LEN);
+    let s = m.state;
+    let found = take::in_turn(records, s.own, s.vector)?;
+    let held = usize::from(s.held);
     if Header::WRITES_MOST - held < found.new {
-        return state::refused(Refusal::HistoryFull, s);
+        return Err(Refusal::HistoryFull);
     }
-    let next = taken(s, found.new, found.vector);
     // Nothing new: no second pass over the records.
-    if found.new == 0 {
-        return state::finished(next);
+    if found.new != 0 {
+        take::append(m.history, held, records, s.vector);
     }
-    take::append(history, held, &message[Header::LEN..], count, s.vector);
-    state::finished(next)
+    m.state = taken(s, found.new, found.vector);
+    Ok(())
 }

@@ -9,13 +9,13 @@ use borrow.Author.Tests.{eqb-true, leb-true}
 use lib.Dec.{eqb, leb}
 use lib.ListN.{length, take, drop, length-take, length-drop}
 use lib.Seq.{take_at, drop_at, drop-drop, take-add}
+use Rattle.std.specs.Prelude.{Ok}
 use Rattle.notes.specs.Bytes.{field, from_bytes, to_bytes, pieces}
 use Rattle.notes.specs.Index.{servers, phones}
 use Rattle.notes.specs.Vector.{vector, count_size, counts_in, count_bytes, vector_from, vector_bytes}
 use Rattle.notes.specs.declared.vector.Vector.{Vector}
 use Rattle.notes.specs.Session.{choice_number, choose}
 use Rattle.notes.specs.declared.session.Choice.{Choice}
-use Rattle.notes.specs.declared.session.Chosen.TheVariants.{As}
 use Rattle.notes.specs.declared.session.Session.{Session}
 use Rattle.notes.proofs.Lists.{both, part_join, parts_join}
 use Rattle.notes.proofs.Numbers.{AllBelow, below-take, below-drop, one_byte, from-to, to-from, length-to_bytes, part-back, byte-join}
@@ -203,7 +203,7 @@ module _ (s : Session) (h : FitsSession s) (r : List ℕ) where
       sym (drop-drop vector_size writes_at bytes)
       ∙ rw from-writes (drop_at (vector_bytes s.writes) from-choice vector_size (length-vector_bytes s.writes h.eight.writes))
 
-  choice-back : choose (field choice_field bytes) ≡ As s.choice
+  choice-back : choose (field choice_field bytes) ≡ Ok s.choice
   choice-back = rw last (ap choose (one_byte (choice_number s.choice)) ∙ choose-number s.choice)
 
   vectors-back : session_in s.choice bytes ≡ s
@@ -216,7 +216,7 @@ module _ (s : Session) (h : FitsSession s) (r : List ℕ) where
 pub session-back :
     (s : Session) (b : List ℕ)
     → FitsSession s
-    → let z = onto (session_bytes s) b in (choose (field choice_field z) ≡ As s.choice) × (session_in s.choice z ≡ s)
+    → let z = onto (session_bytes s) b in (choose (field choice_field z) ≡ Ok s.choice) × (session_in s.choice z ≡ s)
 session-back s b h =
     let r = drop (length (session_bytes s)) b in
     (choice-back s h r, vectors-back s h r)
@@ -225,7 +225,7 @@ pub session-again :
     (c : Choice) (b : List ℕ)
     → AllBelow 256 b
     → session_size ≤ length b
-    → choose (field choice_field b) ≡ As c
+    → choose (field choice_field b) ≡ Ok c
     → onto (session_bytes (session_in c b)) b ≡ b
 unfolding vector_from vector_bytes
 session-again c b h room e =

@@ -1,24 +1,21 @@
 -- What the calls without a state answer: a place or a number.
 -- Assumes nothing.
 use Prim.Native.Nat.{ℕ, ◌≤◌, ◌<◌}
-use mathlib.Core.List.{List, [], ◌∷◌, ◌++◌}
+use mathlib.Core.List.{List, [], ◌∷◌}
 use mathlib.Core.Option.{Option, none, some, map, some-ne-none}
-use mathlib.Core.Bool.{true, false}
-use mathlib.Core.Path.{◌≡◌, refl, sym, ap}
+use mathlib.Core.Path.{◌≡◌, refl, sym, ap, ◌∙◌}
 use native.Mathlib.Omega.{arith}
-use borrow.Author.Tests.{lt-ltb, le-ltb}
-use lib.ListN.{length, get_or, take, drop}
-use lib.Seq.{take_all}
+use lib.ListN.{get_or}
+use Rattle.std.specs.Prelude.{Result}
+use Rattle.std.specs.Prelude.{Option as Maybe}
 use Rattle.notes.specs.Reply.{Reply, done, or_else}
-use Rattle.notes.specs.Record.{record_size, encode}
-use Rattle.notes.specs.Message.{read_at, place_after}
 use Rattle.notes.specs.declared.index.ServerId.{ServerId}
 use Rattle.rules.specs.declared.answer.Refusal.{Refusal}
 use Rattle.rules.specs.Image.{image_size, checkpoint_at, checkpoint_count, log_count, checkpoint_place, log_place, checkpoint_area, log_area, checkpoint, log}
 use Rattle.rules.specs.Calls.{place_of, stands_at, look_up_refusal, reply_unless}
-use Rattle.calls.specs.Place.{place_reply}
+use Rattle.calls.specs.Place.{place_reply, found_reply}
 use Rattle.calls.proofs.LookUp.{Accepted, accepted, place-among}
-use Rattle.ssaldorip.specs.Calls.{left, place_or_number, next}
+use Rattle.ssaldorip.specs.Calls.{place_or_number}
 
 -- ---- a look-up
 
@@ -26,11 +23,17 @@ use Rattle.ssaldorip.specs.Calls.{left, place_or_number, next}
 abbrev pub value_or : Reply → ℕ
 value_or r = get_or r.values 0 r.number
 
-pub place-or-number : (x : Option Refusal) (y : Option ℕ) → value_or (reply_unless x (place_reply y)) ≡ place_or_number x y
+place-or-number : (x : Option Refusal) (y : Option ℕ) → value_or (reply_unless x (place_reply y)) ≡ place_or_number x y
 unfolding place_or_number
 place-or-number (some k) y = refl
 place-or-number none (some p) = refl
 place-or-number none none = refl
+
+pub found_is :
+    (a : Result (Maybe ℕ) Refusal) (x : Option Refusal) (y : Option ℕ)
+    → found_reply a ≡ reply_unless x (place_reply y)
+    → value_or (found_reply a) ≡ place_or_number x y
+found_is a x y e = ap value_or e ∙ place-or-number x y
 
 module _ (i : List ℕ) (o : ServerId) (n p : ℕ) where
   -- a place is past the image's header, so it is no refusal's number
@@ -77,25 +80,3 @@ module _ (i : List ℕ) (o : ServerId) (n p : ℕ) where
       go (some k) y f e = let z : ◌≡◌ {A = ℕ} 0 1 = cc in absurd (omega arith)
       go none (some q) f e = f refl (cc)
       go none none f e = let z : ◌≡◌ {A = ℕ} 0 1 = cc in absurd (omega arith)
-
--- ---- reading a message
-module _ (m : List ℕ) (at : ℕ) (out : List ℕ) where
-  pub next-short : length out < record_size → next m at out ≡ left 9 out
-  unfolding next
-  next-short h = rw (lt-ltb (length out) record_size h)
-
-  module _ (room : record_size ≤ length out) where
-    pub next-none : (read_at m at).found ≡ false → next m at out ≡ left 0 out
-    unfolding next
-    next-none e = rw (le-ltb (length out) record_size room, e)
-
-    -- the bytes b of what was read, copied
-    pub next-found :
-        (read_at m at).found ≡ true
-        → (b after : List ℕ)
-        → b ≡ encode (read_at m at).write
-        → after ≡ take (length b) b ++ drop (length b) out
-        → left (place_after m at) after ≡ next m at out
-    unfolding next
-    next-found e b after wrote copied =
-        rw (le-ltb (length out) record_size room, e, ← wrote, copied, take_all (length b) b (omega arith))

@@ -1,12 +1,14 @@
 -- The boundary: its version, a state as a block of 160 bytes, and the calls on numbers and bytes.
 -- Assumes nothing.
-use Rattle.std.specs.Prelude.{ℕ, ◌+◌, ◌*◌, Bool, false, ◌&&◌, cond, ◌||◌, List, ◌∷◌, ◌++◌, [], eqb, leb, ltb, drop, length, get_or, replicate}
+use Rattle.std.specs.Prelude.{ℕ, ◌+◌, ◌*◌, Bool, false, ◌&&◌, cond, ◌||◌, List, ◌∷◌, ◌++◌, [], eqb, leb, ltb, drop, length, get_or, replicate, Some, None}
+use Rattle.std.specs.Prelude.{Option as Maybe}
 use Rattle.std.proofs.Math.Option.{Option, none, some}
 use Rattle.notes.specs.Bytes.{Field, field, to_bytes}
 use Rattle.notes.specs.Index.{phones, servers}
 use Rattle.notes.specs.Vector.{count_size, counts_in, count_bytes, vector_from, vector_bytes}
 use Rattle.notes.specs.declared.vector.Vector.{Vector}
 use Rattle.notes.specs.Record.{record_size, encode}
+use Rattle.notes.specs.declared.record.Record.{Record}
 use Rattle.notes.specs.Message.{read_at, place_after}
 use Rattle.notes.specs.Reply.{Reply, Filled}
 use Rattle.rules.specs.Memory.{blank, Memory, memory}
@@ -188,9 +190,11 @@ place_or_number (some r) p = refusal_number r
 place_or_number none none = 0
 place_or_number none (some p) = p
 
+-- what was read at a place, copied, and the place behind it; 0 where no whole record is left
+abbrev pub copied : Maybe Record → ℕ → List ℕ → ℕ × List ℕ
+copied (Some x) after out = left after (onto (encode x) out)
+copied None after out = left 0 out
+
 -- the record at a place of a message, copied, and the place behind it; 0 where no whole one is left; 9 first
 unfoldable pub next : List ℕ → ℕ → List ℕ → ℕ × List ℕ
-next m at out =
-    let x = read_at m at in
-    cond (ltb (length out) record_size) (left 9 out)
-    (cond x.found (left (place_after m at) (onto (encode x.write) out)) (left 0 out))
+next m at out = cond (ltb (length out) record_size) (left 9 out) (copied (read_at m at) (place_after m at) out)

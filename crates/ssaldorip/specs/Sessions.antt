@@ -1,14 +1,13 @@
 -- A phone's session in its bytes, and the calls on it.
 -- Assumes nothing.
-use Rattle.std.specs.Prelude.{ℕ, cond, ◌||◌, List, [], ◌∷◌, ◌++◌, ltb, drop, length}
+use Rattle.std.specs.Prelude.{ℕ, cond, ◌||◌, List, [], ◌∷◌, ◌++◌, ltb, drop, length, Result, Ok, Err}
 use Rattle.notes.specs.Bytes.{Field, field}
 use Rattle.notes.specs.Vector.{vector_from, vector_bytes}
 use Rattle.notes.specs.declared.vector.Vector.{Vector}
 use Rattle.notes.specs.Message.{refusal_number}
+use Rattle.notes.specs.declared.message.Refusal.{Refusal}
 use Rattle.notes.specs.Session.{choice_number, choose, new_session, read_carries}
 use Rattle.notes.specs.declared.session.Choice.{Choice}
-use Rattle.notes.specs.declared.session.Chosen.{Chosen}
-use Rattle.notes.specs.declared.session.Chosen.TheVariants.{As, Refused}
 use Rattle.notes.specs.declared.session.Session.{Session}
 use Rattle.ssaldorip.specs.Calls.{vector_size, left, onto, put}
 
@@ -30,9 +29,9 @@ abbrev pub session_bytes : Session → List ℕ
 session_bytes s = vector_bytes s.reads ++ vector_bytes s.writes ++ choice_number s.choice ∷ []
 
 -- what a call goes on with where the choice is known; an unknown one is 1, and leaves the bytes
-abbrev pub if_chosen : Chosen → List ℕ → (Choice → ℕ × List ℕ) → ℕ × List ℕ
-if_chosen (As c) b next = next c
-if_chosen (Refused r) b next = left (refusal_number r) b
+abbrev pub if_chosen : Result Choice Refusal → List ℕ → (Choice → ℕ × List ℕ) → ℕ × List ℕ
+if_chosen (Ok c) b next = next c
+if_chosen (Err r) b next = left (refusal_number r) b
 
 -- ---- the calls
 

@@ -1,15 +1,19 @@
 // The calls on a phone's session in its bytes: they need no server.
 ghost use Rattle.std.specs.Prelude.{◌≡◌, ◌≤◌, length};
 ghost use Rattle.notes.specs.Session.{after_read, after_write};
+ghost use Rattle.notes.specs.declared.session.Session.{Session};
+ghost use Rattle.notes.specs.declared.vector.Vector.{Vector};
+ghost use Rattle.rules.specs.Answer.{verdict_reply};
 ghost use Rattle.ssaldorip.specs.Calls.{left, onto};
 ghost use Rattle.ssaldorip.specs.Sessions.{session_size, session_in, session_bytes, session_start, session_raise, session_asks};
-ghost use Rattle.ssaldorip.specs.Forms.{heard_as};
+ghost use Rattle.ssaldorip.specs.Forms.{session_told};
 
-use crate::messages::number;
-use crate::steps::TOO_SHORT;
-use notes::session::{Choice, Chosen, Session, choose, raised_by, raised_by_write};
+use crate::call::{code, vector_in};
+use notes::number::raw::Number;
+use notes::session::{Choice, Session};
+use notes::vector;
 use notes::vector::Vector;
-use notes::{number as numbers, vector};
+use rules::answer::Refusal;
 
 // The vector of reads stands first; where the vector of own writes and the choice stand, and the whole.
 const WRITES: usize = Vector::SIZE;
@@ -18,59 +22,40 @@ const CHOICE: usize = WRITES + Vector::SIZE;
 
 const LEN: usize = CHOICE + 1;
 
-// The session in its bytes, whose choice is known.
-fn session_in(choice: Choice, session: &[u8]) -> Session
-    requires { session_size ≤ length session.now }
-    ensures { result ≡ session_in choice session.now }
+// The session in its bytes: 9 for too few of them, then 1 for an unknown choice.
+fn session_of(b: &[u8]) -> Result<Session, Refusal>
+    ensures { result ≡ session_told b.now }
 {
-    Session {
-        choice,
-        reads: vector::raw::vector_at(session, 0),
-        writes: vector::raw::vector_at(session, WRITES),
+    if b.len() < LEN {
+        return Err(Refusal::TooShort);
     }
+    Ok(Session {
+        choice: Choice::try_from(b[CHOICE])?,
+        reads: vector::raw::vector_at(b, 0),
+        writes: vector::raw::vector_at(b, WRITES),
+    })
 }
 
 // A session in its bytes; the bytes past it stay.
-fn put_session(session: &mut [u8], s: Session)
-    requires { session_size ≤ length session.old }
-    ensures { session.new ≡ onto (session_bytes s) session.old }
+fn put_session(b: &mut [u8], s: Session)
+    requires { session_size ≤ length b.old }
+    ensures { b.new ≡ onto (session_bytes s) b.old }
 {
-    let choice = s.choice;
-    vector::raw::put_vector(session, 0, s.reads);
-    vector::raw::put_vector(session, WRITES, s.writes);
-    numbers::raw::put_u8(session, CHOICE, choice.number());
+    vector::raw::put_vector(b, 0, s.reads);
+    vector::raw::put_vector(b, WRITES, s.writes);
+    u8::from(s.choice).put(b, CHOICE);
 }
 
-// The session after a reply, to a write or to a read.
-fn heard(s: Session, reply: Vector, written: bool) -> Session
-    ensures { result ≡ heard_as written s reply }
-{
-    if written {
-        return raised_by_write(s, reply);
-    }
-    raised_by(s, reply)
-}
-
-// A session raised in its bytes by a reply's vector.
-fn raised(session: &mut [u8], reply_vector: &[u8], written: bool) -> u32
-    ensures { left result session.new ≡ session_raise (heard_as written) session.old reply_vector.now }
+// A new session in its bytes.
+#[tactic(auto, unfolding(crate::specs::Sessions::session_start))]
+fn started(choice: u8, session: &mut [u8]) -> Result<(), Refusal>
+    ensures { left (verdict_reply result).number session.new ≡ session_start choice session.old }
 {
     if session.len() < LEN {
-        return TOO_SHORT;
+        return Err(Refusal::TooShort);
     }
-    if reply_vector.len() < Vector::SIZE {
-        return TOO_SHORT;
-    }
-    let chosen = choose(session[CHOICE]);
-    match chosen {
-        Chosen::Refused(k) => number(k),
-        Chosen::As(choice) => {
-            let before = session_in(choice, session);
-            let reply = vector::raw::vector_at(reply_vector, 0);
-            put_session(session, heard(before, reply, written));
-            0
-        }
-    }
+    put_session(session, Session::new(Choice::try_from(choice)?));
+    Ok(())
 }
 
 // A new session of this choice: 9 where it is too short, then 1 for an unknown choice.
@@ -78,17 +63,25 @@ fn raised(session: &mut [u8], reply_vector: &[u8], written: bool) -> u32
 pub extern "C" fn ssaldorip_session_start(choice: u8, session: &mut [u8]) -> u32
     ensures { left result session.new ≡ session_start choice session.old }
 {
-    if session.len() < LEN {
-        return TOO_SHORT;
-    }
-    let chosen = choose(choice);
-    match chosen {
-        Chosen::Refused(k) => number(k),
-        Chosen::As(c) => {
-            put_session(session, Session::new(c));
-            0
-        }
-    }
+    code(started(choice, session))
+}
+
+// A session in its bytes, after a reply's vector.
+#[tactic(auto, using(crate::proofs::Raised::raise_told))]
+fn raised<F: Fn(Session, Vector) -> Session>(
+    session: &mut [u8],
+    reply_vector: &[u8],
+    after: F,
+) -> Result<(), Refusal>
+    requires { F.IsAlwaysCallable after }
+    ensures { (f : Session → Vector → Session)
+        → ((s : Session) (v : Vector) (r : Session) → F.post after s v r → r ≡ f s v)
+        → left (verdict_reply result).number session.new ≡ session_raise f session.old reply_vector.now }
+{
+    let reply = vector_in(reply_vector)?;
+    let s = session_of(session)?;
+    put_session(session, after(s, reply));
+    Ok(())
 }
 
 // The session raised by a read's reply: 9 where one of the two is too short, then 1 where its choice is unknown.
@@ -96,7 +89,7 @@ pub extern "C" fn ssaldorip_session_start(choice: u8, session: &mut [u8]) -> u32
 pub extern "C" fn ssaldorip_session_raise(session: &mut [u8], reply_vector: &[u8]) -> u32
     ensures { left result session.new ≡ session_raise after_read session.old reply_vector.now }
 {
-    raised(session, reply_vector, false)
+    code(raised(session, reply_vector, Session::after_read))
 }
 
 // The same by a write's reply.
@@ -104,7 +97,20 @@ pub extern "C" fn ssaldorip_session_raise(session: &mut [u8], reply_vector: &[u8
 pub extern "C" fn ssaldorip_session_raise_written(session: &mut [u8], reply_vector: &[u8]) -> u32
     ensures { left result session.new ≡ session_raise after_write session.old reply_vector.now }
 {
-    raised(session, reply_vector, true)
+    code(raised(session, reply_vector, Session::after_write))
+}
+
+// What a session's next read carries, in an output.
+#[tactic(auto, using(crate::proofs::Raised::asks_told))]
+fn carried(session: &[u8], asked: &mut [u8]) -> Result<(), Refusal>
+    ensures { left (verdict_reply result).number asked.new ≡ session_asks session.now asked.old }
+{
+    let s = session_of(session)?;
+    if asked.len() < Vector::SIZE {
+        return Err(Refusal::TooShort);
+    }
+    vector::raw::put_vector(asked, 0, s.read_carries());
+    Ok(())
 }
 
 // What the session's next read carries, at the start of `asked`: 9 for the session, then 1, then 9 for `asked`.
@@ -112,19 +118,5 @@ pub extern "C" fn ssaldorip_session_raise_written(session: &mut [u8], reply_vect
 pub extern "C" fn ssaldorip_session_asks(session: &[u8], asked: &mut [u8]) -> u32
     ensures { left result asked.new ≡ session_asks session.now asked.old }
 {
-    if session.len() < LEN {
-        return TOO_SHORT;
-    }
-    let chosen = choose(session[CHOICE]);
-    match chosen {
-        Chosen::Refused(k) => number(k),
-        Chosen::As(choice) => {
-            if asked.len() < Vector::SIZE {
-                return TOO_SHORT;
-            }
-            let s = session_in(choice, session);
-            vector::raw::put_vector(asked, 0, s.read_carries());
-            0
-        }
-    }
+    code(carried(session, asked))
 }

@@ -1,51 +1,23 @@
 // The steps of a server that reply nothing but their number: its state is a block.
-ghost use Rattle.std.specs.Prelude.{◌≡◌, cond, [], ◌≤◌, eqb, length};
+ghost use Rattle.std.specs.Prelude.{◌≡◌, [], length};
 ghost use Rattle.notes.specs.Vector.{zeros, vector_from};
-ghost use Rattle.notes.specs.declared.vector.Vector.{Vector};
-ghost use Rattle.rules.specs.Answer.{answer_reply};
+ghost use Rattle.rules.specs.Answer.{verdict_reply};
 ghost use Rattle.rules.specs.Memory.{phone as phone_of};
 ghost use Rattle.rules.specs.declared.event.Request.TheVariants.{Read, Write};
 ghost use Rattle.rules.specs.declared.event.What.TheVariants as what;
-ghost use Rattle.ssaldorip.specs.Calls.{block_size, block_of, lent, called, onto, call, happening, no_reply, plainly};
+ghost use Rattle.ssaldorip.specs.Calls.{lent, called, call, happening, no_reply, plainly};
 
 use crate::block;
-use memory::refusal;
+use crate::call::{code, vector_in};
+use memory::lent::Server;
 use notes::index::{PhoneId, ServerId};
-use notes::vector;
 use notes::vector::Vector;
-use rules::answer::{Answer, Outcome};
+use rules::answer::Refusal;
 use rules::event::{Event, Request, What};
 use server::step;
 
-// 9: a buffer too short.
-pub(crate) const TOO_SHORT: u32 = 9;
-
-// The number of an answer, whatever vector stands beside it.
-pub(crate) fn number_of(a: Answer) -> u32
-    ensures { (v : Vector) → result ≡ (answer_reply a v).number }
-{
-    match a {
-        Answer::Value(_) => 0,
-        Answer::NoNote => 0,
-        Answer::Written => 0,
-        Answer::Done => 0,
-        Answer::Refused(k) => refusal::number(k) as u32,
-    }
-}
-
-// The number of an outcome, with the next state in the block unless it is a refusal's.
-pub(crate) fn settled(o: Outcome, state: &mut [u8]) -> u32
-    requires { block_size ≤ length state.old }
-    ensures { (result ≡ (answer_reply o.answer o.vector).number) × (state.new ≡ cond (eqb (answer_reply o.answer o.vector).number 0) (onto (block_of o.next) state.old) state.old) }
-{
-    let answer = o.answer;
-    let k = number_of(answer);
-    if k != 0 {
-        return k;
-    }
-    block::put_state(state, o.next);
-    0
-}
+// The vector of an event that carries none.
+const ZEROS: [u8; Vector::SIZE] = [0; Vector::SIZE];
 
 // An event at the server of a block, told in the block, the history and the image; nothing is replied but its number.
 fn stepped(
@@ -54,25 +26,30 @@ fn stepped(
     image: &mut [u8],
     server: u8,
     what: What,
-    asked: Vector,
+    asked: &[u8],
     message: &[u8],
-) -> u32
-    ensures { called result (lent state.new history.new image.new [])
-        ≡ plainly (happening server what asked message.now) (lent state.old history.old image.old []) }
+) -> Result<(), Refusal>
+    ensures { called (verdict_reply result).number (lent state.new history.new image.new [])
+        ≡ call (length asked.now) 0 (happening server what (vector_from asked.now) message.now) no_reply
+        (lent state.old history.old image.old []) }
 {
-    if state.len() < block::LEN {
-        return TOO_SHORT;
-    }
-    let s = block::state_of(state);
+    let asked = vector_in(asked)?;
+    let mut m = Server {
+        state: block::state_of(state)?,
+        history,
+        image,
+    };
     let e = Event {
         server: ServerId(server),
         what,
     };
-    let o = step::step(s, e, asked, message, history, image);
-    settled(o, state)
+    step::step(&mut m, e, asked, message)?;
+    block::put_state(state, &m.state);
+    Ok(())
 }
 
 // Takes another server's update: its new writes behind those held. Nothing is stored.
+#[tactic(auto, using(crate::proofs::Called::no_vector))]
 #[unsafe(no_mangle)]
 pub extern "C" fn ssaldorip_update(
     state: &mut [u8],
@@ -84,18 +61,11 @@ pub extern "C" fn ssaldorip_update(
     ensures { called result (lent state.new history.new image.new [])
         ≡ plainly (happening server what.Update zeros message.now) (lent state.old history.old image.old []) }
 {
-    stepped(
-        state,
-        history,
-        image,
-        server,
-        What::Update,
-        Vector::zero(),
-        message,
-    )
+    code(stepped(state, history, image, server, What::Update, &ZEROS, message))
 }
 
 // A plain cut: the state is down, and nothing is stored.
+#[tactic(auto, using(crate::proofs::Called::no_vector))]
 #[unsafe(no_mangle)]
 pub extern "C" fn ssaldorip_cut(
     state: &mut [u8],
@@ -106,18 +76,11 @@ pub extern "C" fn ssaldorip_cut(
     ensures { called result (lent state.new history.new image.new [])
         ≡ plainly (happening server what.Cut zeros []) (lent state.old history.old image.old []) }
 {
-    stepped(
-        state,
-        history,
-        image,
-        server,
-        What::Cut,
-        Vector::zero(),
-        b"",
-    )
+    code(stepped(state, history, image, server, What::Cut, &ZEROS, b""))
 }
 
 // Brings a down server back from its image.
+#[tactic(auto, using(crate::proofs::Called::no_vector))]
 #[unsafe(no_mangle)]
 pub extern "C" fn ssaldorip_recover(
     state: &mut [u8],
@@ -128,45 +91,7 @@ pub extern "C" fn ssaldorip_recover(
     ensures { called result (lent state.new history.new image.new [])
         ≡ plainly (happening server what.Recovery zeros []) (lent state.old history.old image.old []) }
 {
-    stepped(
-        state,
-        history,
-        image,
-        server,
-        What::Recovery,
-        Vector::zero(),
-        b"",
-    )
-}
-
-// A request cut after so many of its stores.
-fn cut_after(
-    state: &mut [u8],
-    history: &mut [u8],
-    image: &mut [u8],
-    server: u8,
-    phone: u8,
-    q: Request,
-    asked: &[u8],
-    stores: u32,
-) -> u32
-    ensures { called result (lent state.new history.new image.new [])
-        ≡ call (length asked.now) 0 (happening server (what.RequestCut (phone_of phone) q stores) (vector_from asked.now) []) no_reply
-        (lent state.old history.old image.old []) }
-{
-    if asked.len() < Vector::SIZE {
-        return TOO_SHORT;
-    }
-    let v = vector::raw::vector_at(asked, 0);
-    stepped(
-        state,
-        history,
-        image,
-        server,
-        What::RequestCut(PhoneId(phone), q, stores),
-        v,
-        b"",
-    )
+    code(stepped(state, history, image, server, What::Recovery, &ZEROS, b""))
 }
 
 // A read cut after so many of its stores.
@@ -186,7 +111,8 @@ pub extern "C" fn ssaldorip_read_cut(
         (lent state.old history.old image.old []) }
 {
     let q = Request::Read { cell };
-    cut_after(state, history, image, server, phone, q, asked, stores)
+    let what = What::RequestCut(PhoneId(phone), q, stores);
+    code(stepped(state, history, image, server, what, asked, b""))
 }
 
 // A write cut after so many of its stores.
@@ -208,5 +134,6 @@ pub extern "C" fn ssaldorip_write_cut(
         (lent state.old history.old image.old []) }
 {
     let q = Request::Write { cell, value, time };
-    cut_after(state, history, image, server, phone, q, asked, stores)
+    let what = What::RequestCut(PhoneId(phone), q, stores);
+    code(stepped(state, history, image, server, what, asked, b""))
 }

@@ -1,6 +1,7 @@
 -- Text as bytes: numbers in decimal, a line of a name and numbers, the listing of a message.
 -- Assumes nothing.
-use Rattle.std.specs.Prelude.{ℕ, zero, suc, ◌+◌, ◌/◌, ◌%◌, ◌*◌, cond, ◌≡◌, ltb, length, take}
+use Rattle.std.specs.Prelude.{ℕ, zero, suc, ◌+◌, ◌/◌, ◌%◌, ◌*◌, cond, ◌≡◌, ◌≤◌, ltb, length, take}
+use denote.Ref.{MutBor}
 use Prim.Native.Char.{code}
 use Prim.Native.String.{String}
 use Prim.Native.String as string
@@ -12,6 +13,7 @@ use Rattle.notes.specs.declared.message.Refusal.TheVariants.{TooShort}
 use Rattle.notes.specs.Index.{servers}
 use Rattle.notes.specs.Record.{number}
 use Rattle.notes.specs.declared.record.Record.{Record}
+use Rattle.text.specs.declared.print.Page.{Page}
 
 -- the bytes of a text, each of its characters below 128
 abbrev pub text : String → List ℕ
@@ -40,6 +42,21 @@ spaced n = text " " ++ decimal n
 pub record Stored (out : List ℕ) (at : ℕ) (t : List ℕ) (end : ℕ) (after : List ℕ) : Type 0 where
   pub ends : end ≡ at + length t
   pub bytes : after ≡ sets out at t
+
+-- a page holds an output and the place behind what stands in it; it has room for so many bytes more
+abbrev pub HasRoom : Page → ℕ → Type 0
+HasRoom page k = page.at + k ≤ length page.out.now
+
+-- a page on which nothing stands yet
+pub record Blank (out : MutBor (List ℕ)) (page : Page) : Type 0 where
+  pub same : page.out.ghost_name ≡ out.ghost_name
+  pub bytes : page.out.now ≡ out.now
+  pub at : page.at ≡ 0
+
+-- t is stored behind what stood on a page, in the same output
+pub record Added (before : Page) (t : List ℕ) (after : Page) : Type 0 where
+  pub same : after.out.ghost_name ≡ before.out.ghost_name
+  pub stored : Stored before.out.now before.at t after.at after.out.now
 
 -- ---- a line of a name and numbers
 

@@ -1,55 +1,71 @@
-// Text stored at a place of a lent output, each function handing back the place behind it.
-ghost use Rattle.std.specs.Prelude.{◌+◌, ◌*◌, ◌≤◌, length};
+// A page of text: a lent output that is filled from its front.
+ghost use Rattle.std.specs.Prelude.{◌+◌, ◌*◌, length};
 ghost use mathlib.Core.List.{flat_map};
-ghost use Rattle.text.specs.Text.{digits_most, decimal, spaced, Stored};
+ghost use Rattle.text.specs.Text.{text, digits_most, decimal, spaced, HasRoom, Blank, Added};
 
+use itoa::Buffer;
 use notes::number;
 
 // The most digits that a number has.
 pub(crate) const DIGITS: usize = 10;
 
-// The bytes of t.
-pub(crate) fn put_text(out: &mut [u8], at: usize, t: &[u8]) -> usize
-    requires { at + length t.now ≤ length out.old }
-    ensures { Stored out.old at t.now result out.new }
-{
-    number::raw::put_bytes(out, at, t);
-    at + t.len()
+// The output, and the place behind what stands in it.
+#[derive(Drop)]
+pub(crate) struct Page<'a> {
+    pub(crate) out: &'a mut [u8],
+    pub(crate) at: usize,
 }
 
-// A number in decimal.
-pub(crate) fn put_decimal(out: &mut [u8], at: usize, n: u32) -> usize
-    requires { at + length (decimal n) ≤ length out.old }
-    ensures { Stored out.old at (decimal n) result out.new }
-{
-    if n < 10 {
-        out[at] = 48 + (n as u8);
-        return at + 1;
+impl<'a> Page<'a> {
+    // A page on which nothing stands yet.
+    pub(crate) fn new(out: &'a mut [u8]) -> Page<'a>
+        ensures { Blank out.entry result }
+    {
+        Page { out, at: 0 }
     }
-    let last = put_decimal(out, at, n / 10);
-    out[last] = 48 + ((n % 10) as u8);
-    last + 1
-}
 
-// A space, and a number in decimal.
-pub(crate) fn put_spaced(out: &mut [u8], at: usize, n: u32) -> usize
-    requires { at + length (spaced n) ≤ length out.old }
-    ensures { Stored out.old at (spaced n) result out.new }
-{
-    out[at] = b' ';
-    put_decimal(out, at + 1, n)
-}
-
-// Numbers, with a space before each.
-pub(crate) fn put_all_spaced(out: &mut [u8], at: usize, xs: &[u32]) -> usize
-    requires { at + (digits_most + 1) * length xs.now ≤ length out.old }
-    ensures { Stored out.old at (flat_map spaced xs.now) result out.new }
-{
-    let mut end = at;
-    let mut i: usize = 0;
-    while i < xs.len() {
-        end = put_spaced(out, end, xs[i]);
-        i += 1;
+    // The bytes of t.
+    pub(crate) fn text(&mut self, t: &[u8])
+        requires { HasRoom self.old (length t.now) }
+        ensures { Added self.old t.now self.new }
+    {
+        number::raw::put_bytes(self.out, self.at, t);
+        self.at += t.len();
     }
-    end
+
+    // A line's end.
+    pub(crate) fn end_line(&mut self)
+        requires { HasRoom self.old 1 }
+        ensures { Added self.old (text "\n") self.new }
+    {
+        self.text(b"\n");
+    }
+
+    // A number in decimal.
+    #[tactic(auto, using(crate::proofs::Decimals::decimal_written))]
+    pub(crate) fn number(&mut self, n: u32)
+        requires { HasRoom self.old (length (decimal n)) }
+        ensures { Added self.old (decimal n) self.new }
+    {
+        self.text(Buffer::new().format(n).as_bytes());
+    }
+
+    // A space, and a number in decimal.
+    pub(crate) fn spaced(&mut self, n: u32)
+        requires { HasRoom self.old (length (spaced n)) }
+        ensures { Added self.old (spaced n) self.new }
+    {
+        self.text(b" ");
+        self.number(n);
+    }
+
+    // Numbers, with a space before each.
+    pub(crate) fn all_spaced(&mut self, xs: &[u32])
+        requires { HasRoom self.old ((digits_most + 1) * length xs.now) }
+        ensures { Added self.old (flat_map spaced xs.now) self.new }
+    {
+        for x in xs {
+            self.spaced(*x);
+        }
+    }
 }

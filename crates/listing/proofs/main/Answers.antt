@@ -6,8 +6,8 @@ use Rattle.text.proofs.Lines.{listed-within}
 use Rattle.listing.proofs.main.Goals as goal
 
 pub slice_bounds-out-end : goal.slice_bounds-out-end
-slice_bounds-out-end c = listed-within _ _ c.in-Bytes.k c.list-listed.new.out c.in-Bytes.ensures
+slice_bounds-out-end c = listed-within _ _ c.in-Ok.k c.list.new.out c.in-Ok.ensures
 
 pub slice_bounds-write_all-end : goal.slice_bounds-write_all-end
 slice_bounds-write_all-end c =
-    sym (length-take-le c.in-Bytes.k c.list-listed.new.out (listed-within _ _ c.in-Bytes.k c.list-listed.new.out c.in-Bytes.ensures))
+    sym (length-take-le c.in-Ok.k c.list.new.out (listed-within _ _ c.in-Ok.k c.list.new.out c.in-Ok.ensures))

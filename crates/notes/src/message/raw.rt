@@ -7,22 +7,21 @@ ghost use Rattle.notes.specs.Message.{header_size, history_most, header_of, mess
 use crate::index::ServerId;
 use crate::message::Header;
 use crate::number;
+use crate::number::raw::Number;
 use crate::record::Record;
 
-// The header of a message of so many writes, stored at the start of out.
-fn put_header(out: &mut [u8], n: u8, sender: ServerId, count: usize)
-    requires { (header_size ≤ length out.old) × (count ≤ history_most) }
-    ensures { out.new ≡ sets out.old 0 (header_of n sender count) }
+// A header's bytes, stored at the start of out.
+fn put_header(out: &mut [u8], h: Header)
+    requires { (header_size ≤ length out.old) × (h.count ≤ history_most) }
+    ensures { out.new ≡ sets out.old 0 (header_of h.n h.sender h.count) }
 {
-    number::raw::put_u8(out, Header::N, n);
-    number::raw::put_u8(out, Header::SENDER, sender.0);
-    number::raw::put_u16(out, Header::COUNT, count as u16);
-    number::raw::put_u16(out, Header::OFFSET, Header::LEN as u16);
-    number::raw::put_u16(
-        out,
-        Header::TOTAL,
-        (Header::LEN + Record::LEN * count) as u16,
-    );
+    let len = Header::LEN + Record::LEN * h.count;
+    h.n.put(out, Header::N);
+    h.sender.0.put(out, Header::SENDER);
+    // By `as`, since a usize becomes a u16 by no `From`; all three fit, as the clause says.
+    (h.count as u16).put(out, Header::COUNT);
+    (Header::LEN as u16).put(out, Header::OFFSET);
+    (len as u16).put(out, Header::TOTAL);
 }
 
 // The message of whole records, at most 256, at the start of out; the rest of out stays.
@@ -30,6 +29,7 @@ pub fn put_message(out: &mut [u8], n: u8, sender: ServerId, records: &[u8])
     requires { (header_size + length records.now ≤ length out.old) × (length records.now ≡ record_size * (length records.now / record_size)) × (length records.now / record_size ≤ history_most) }
     ensures { out.new ≡ message_of n sender (records_in records.now) ++ drop (header_size + length records.now) out.old }
 {
-    put_header(out, n, sender, records.len() / Record::LEN);
+    let count = records.len() / Record::LEN;
+    put_header(out, Header { n, sender, count });
     number::raw::put_bytes(out, Header::LEN, records);
 }

@@ -12,9 +12,9 @@ pub fn vector_at(b: &[u8], at: usize) -> Vector
     requires { at + count_size * servers ≤ length b.now }
     ensures { result ≡ vector_from (drop at b.now) }
 {
-    let mut counts = [0u16; Vector::LEN];
-    number::raw::counts_at(b, at, &mut counts);
-    Vector { counts }
+    Vector {
+        counts: number::raw::counts_at(b, at),
+    }
 }
 
 // A vector's sixteen bytes stored from a place on.
@@ -22,6 +22,5 @@ pub fn put_vector(out: &mut [u8], at: usize, v: Vector)
     requires { at + count_size * servers ≤ length out.old }
     ensures { out.new ≡ sets out.old at (vector_bytes v) }
 {
-    let counts = v.counts;
-    number::raw::put_counts(out, at, &counts);
+    number::raw::put_counts(out, at, &v.counts);
 }

@@ -1,32 +1,18 @@
--- `look_up::find` meets its contract. The invariant: the write is found, or not, among the records from the next place on.
+-- `look_up::find` meets its contract: each record is tested, from the first on.
 -- Assumes nothing.
-use Prim.Native.Nat.{◌*◌}
-use mathlib.Core.Path.{◌≡◌, sym, ◌∙◌}
-use native.Mathlib.Nat.{add-sub_cancel_left}
-use lib.ListN.{take, drop}
-use Rattle.notes.specs.Record.{record_size, decode}
+use Rattle.std.proofs.Common.{◌∙◌, ap, rules, tests}
+use Rattle.std.proofs.lemmas.Iterator.{YieldsList-from_slice}
+use Rattle.std.proofs.lemmas.Iterator.Search.{position_from_yields_List}
+use Rattle.std.proofs.lemmas.Iterator.Adapters.{position_from-zero}
+use Rattle.notes.specs.Record.{decode}
 use Rattle.rules.specs.Calls.{is_numbered}
-use Rattle.calls.proofs.LookUp.{place_end, place_here, place-later}
-use borrow.Author.Rules.{rules}
+use Rattle.calls.specs.Forms.{placed}
+use Rattle.calls.proofs.LookUp.{first-placed}
 use Rattle.calls.proofs.look_up.find.Goals as goal
-
-pub returns-then-is_write : goal.returns-then-is_write
-returns-then-is_write c =
-    let tested : let a = c.args in
-    c.is_write.result ≡ is_numbered a.origin a.number (decode (take record_size (drop (record_size * c.loop-k.k) a.area.now))) = rw add-sub_cancel_left at c.is_write.ensures in
-    let a = c.args in
-    sym (place_here a.origin a.number a.count a.area.now c.loop-k.k (search rules) (sym tested ∙ c.if-is_write.true)) ∙ c.loop-k.invariant.1
-
-pub loop-k-preserved : goal.loop-k-preserved
-loop-k-preserved c =
-    let tested : let a = c.args in
-    c.is_write.result ≡ is_numbered a.origin a.number (decode (take record_size (drop (record_size * c.loop-k.k) a.area.now))) = rw add-sub_cancel_left at c.is_write.ensures in
-    let a = c.args in (
-      search rules,
-      sym (place-later a.origin a.number a.count a.area.now c.loop-k.k (search rules) (sym tested ∙ c.if-is_write.false)) ∙ c.loop-k.invariant.1,
-    )
 
 pub returns : goal.returns
 returns c =
     let a = c.args in
-    sym (place_end a.origin a.number a.count a.area.now c.loop-k.k c.loop-k-test.false) ∙ c.loop-k.invariant.1
+    let found = position_from_yields_List (λ r. is_numbered a.origin a.number (decode r)) _ _ c.position.result c.position.ensures.ran
+    (YieldsList-from_slice a.records.now cc) (λ x b q k. search (rules, tests)) in
+    ap placed (found ∙ position_from-zero _ a.records.now) ∙ first-placed a.origin a.number a.records.now

@@ -1,45 +1,26 @@
 -- `look_up::look_up` meets its contract: the first refusal, or the part where the record stands.
 -- Assumes nothing.
-use mathlib.Core.Path.{sym}
-use native.Mathlib.Omega.{arith}
-use lib.ListN.{length-take, length-drop}
-use Rattle.rules.specs.Calls.{look_up}
-use Rattle.calls.proofs.LookUp.{Accepted, accepted, part-of-parts}
+use mathlib.Core.Path.{◌≡◌, ◌∙◌}
+use native.Mathlib.Nat.{add-sub_cancel_left}
+use Rattle.rules.specs.Answer.{refusal_reply}
+use Rattle.rules.specs.Calls.{found, look_up}
+use borrow.Author.Rules.{rules}
 use Rattle.calls.proofs.look_up.look_up.Goals as goal
 
-pub returns-in-Refused : goal.returns-in-Refused
+pub returns-in_err-place-clause-reply : goal.returns-in_err-place-clause-reply
 unfolding look_up
-returns-in-Refused c =
-    rw (← c.in-Refused.ensures, c.number.ensures)
+returns-in_err-place-clause-reply c =
+    let told : found c.from_residual.result ≡ refusal_reply c.in_err-place.field-0.0 = search rules in
+    told ∙ rw (← c.in_err-place.ensures.refusal)
 
-pub record_in-requires : goal.record_in-requires
-record_in-requires c =
-    let passed : Accepted c.args.image.now c.args.origin = accepted _ _ (sym c.in_default.ensures) in
-    let known = passed in
-    rw c.counts-held.ensures (simp (length-take, length-drop) (omega arith, omega arith, known.origin))
-
-pub returns : goal.returns
+pub returns-in_default-clause-reply : goal.returns-in_default-clause-reply
 unfolding look_up
-returns c =
-    let passed : Accepted c.args.image.now c.args.origin = accepted _ _ (sym c.in_default.ensures) in
-    rw (
-      ← c.in_default.ensures,
-      c.record_in.ensures,
-      c.counts-held.ensures,
-      part-of-parts _ _ _ passed,
-    )
+returns-in_default-clause-reply c =
+    let nowhere = rw c.in_default.is at c.in_ok-place.ensures.place in
+    rw (← c.in_ok-place.ensures.refusal, ← nowhere)
 
-pub counts-held-requires : goal.counts-held-requires
-counts-held-requires c =
-    let passed : Accepted c.args.image.now c.args.origin = accepted _ _ (sym c.in_default.ensures) in
-    passed.image.long
-
-pub slice_bounds-checkpoint-end : goal.slice_bounds-checkpoint-end
-slice_bounds-checkpoint-end c =
-    let passed : Accepted c.args.image.now c.args.origin = accepted _ _ (sym c.in_default.ensures) in
-    omega (arith, passed.image.long)
-
-pub slice_bounds-log-end : goal.slice_bounds-log-end
-slice_bounds-log-end c =
-    let passed : Accepted c.args.image.now c.args.origin = accepted _ _ (sym c.in_default.ensures) in
-    omega (arith, passed.image.long)
+pub returns-clause-reply : goal.returns-clause-reply
+unfolding look_up
+returns-clause-reply c =
+    let there = rw c.in-Some.is at c.in_ok-place.ensures.place in
+    rw (add-sub_cancel_left, ← c.in_ok-place.ensures.refusal, ← there)

@@ -1,41 +1,36 @@
 -- `message::message` meets its contract: what the head refuses, 9 for the output, and then the message.
 -- Assumes nothing.
 use mathlib.Core.Option.{none}
-use mathlib.Core.Path.{◌≡◌, sym}
+use mathlib.Core.Path.{◌≡◌, sym, ◌∙◌}
 use native.Mathlib.Omega.{arith}
-use Rattle.notes.specs.Reply.{first}
-use Rattle.rules.specs.Memory.{Memory, memory}
-use Rattle.rules.specs.Answer.{head, is_down}
+use Rattle.memory.specs.Lent.{looked_at}
+use Rattle.rules.specs.Answer.{message_reply, refusal_reply}
+use Rattle.rules.specs.Calls.{message_filled}
+use Rattle.notes.specs.Reply.{Reply, Filled}
 use Rattle.calls.proofs.OwnMessage.{held-few, length-bytes, message-refused, message-short, message-filled}
+use borrow.Author.Rules.{rules}
 use Rattle.calls.proofs.message.message.Goals as goal
 
-pub returns-in-Refused : goal.returns-in-Refused
-returns-in-Refused c =
-    let found : Memory = memory c.args.s c.args.history.now c.args.image.now in
-    sym (message-refused found c.args.out.now _ (c.in-Refused.ensures))
+pub returns-in_err-up_head : goal.returns-in_err-up_head
+returns-in_err-up_head c =
+    let told : message_reply c.from_residual.result ≡ refusal_reply c.in_err-up_head.field-0.0 = search rules in
+    rw told (sym (message-refused (looked_at c.args.m) c.args.out.now _ c.in_err-up_head.ensures))
 
 pub returns-then-out-len : goal.returns-then-out-len
 returns-then-out-len c =
-    let found : Memory = memory c.args.s c.args.history.now c.args.image.now in
-    let passed : none ≡ first (head found (is_down found)) = c.in_default.ensures in
-    sym (message-short found c.args.out.now passed c.if-out-len.true)
+    sym (message-short (looked_at c.args.m) c.args.out.now c.in_ok-up_head.ensures (rw c.from-len.ensures at c.if-out-len.true))
 
 pub slice_bounds-put_message-end : goal.slice_bounds-put_message-end
 slice_bounds-put_message-end c =
-    let found : Memory = memory c.args.s c.args.history.now c.args.image.now in
-    let passed : none ≡ first (head found (is_down found)) = c.in_default.ensures in
-    sym (length-bytes found passed)
+    rw c.from-len.ensures (sym (length-bytes (looked_at c.args.m) c.in_ok-up_head.ensures))
 
 pub put_message-requires : goal.put_message-requires
 put_message-requires c =
-    let found : Memory = memory c.args.s c.args.history.now c.args.image.now in
-    let passed : none ≡ first (head found (is_down found)) = c.in_default.ensures in
-    let few = held-few found passed in
-    rw (length-bytes found passed) (omega (arith, c.if-out-len.false), omega arith, omega arith)
+    let few = held-few (looked_at c.args.m) c.in_ok-up_head.ensures in
+    rw (c.from-len.ensures, length-bytes (looked_at c.args.m) c.in_ok-up_head.ensures)
+    (omega (arith, rw c.from-len.ensures at c.if-out-len.false), omega arith, omega arith)
 
 pub returns : goal.returns
 returns c =
-    let found : Memory = memory c.args.s c.args.history.now c.args.image.now in
-    let passed : none ≡ first (head found (is_down found)) = c.in_default.ensures in
-    rw c.put_message.ensures
-    (sym (message-filled found c.args.out.now passed c.if-out-len.false))
+    rw (c.put_message.ensures, c.from-len.ensures)
+    (sym (message-filled (looked_at c.args.m) c.args.out.now c.in_ok-up_head.ensures (rw c.from-len.ensures at c.if-out-len.false)))

@@ -1,8 +1,9 @@
--- `updates::nine_message` meets its contract: a message that was written lies within the output.
+-- `updates::nine_message` is safe: the message that it writes lies within the output.
 -- Assumes nothing.
-use mathlib.Core.Path.{refl}
+use mathlib.Core.Path.{sym}
+use lib.Seq.{length-take-le}
 use Rattle.examples.proofs.Within.{write-within}
 use Rattle.examples.proofs.updates.nine_message.Goals as goal
 
-pub returns-in-Bytes : goal.returns-in-Bytes
-returns-in-Bytes c = write-within _ _ _ _ _ _ c.write-written.new.out refl c.in-Bytes.ensures
+pub slice_bounds-result-end : goal.slice_bounds-result-end
+slice_bounds-result-end c = sym (length-take-le _ _ (write-within _ _ _ _ c.in_ok-len.len c.write.new.out c.in_ok-len.ensures))

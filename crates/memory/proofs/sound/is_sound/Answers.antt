@@ -6,16 +6,17 @@ use Rattle.memory.proofs.sound.is_sound.Goals as goal
 
 pub returns-then-s : goal.returns-then-s
 returns-then-s c =
-    let a = c.args in
-    c.sound_up.ensures ∙ sound-up a.s a.history.now a.image.now c.if-s.true
+    let m = c.args.m in
+    c.sound_up.ensures ∙ sound-up m.state.now m.history.now m.image.now c.if-s.true
 
-pub returns-then-not-is_zero : goal.returns-then-not-is_zero
-returns-then-not-is_zero c =
-    let a = c.args in
-    sym (down-not a.s a.history.now a.image.now c.if-s.false (sym c.is_zero.ensures ∙ c.if-not-is_zero.true))
+pub returns-then-is_zero : goal.returns-then-is_zero
+returns-then-is_zero c =
+    let m = c.args.m in
+    c.is_some.ensures
+    ∙ c.suited.ensures.test
+    ∙ down-decides m.state.now m.history.now m.image.now c.if-s.false (sym c.is_zero.ensures ∙ c.if-is_zero.true)
 
-pub returns : goal.returns
-returns c =
-    let a = c.args in
-    c.suits.ensures
-    ∙ down-decides a.s a.history.now a.image.now c.if-s.false (sym c.is_zero.ensures ∙ c.if-not-is_zero.false)
+pub returns-else-is_zero : goal.returns-else-is_zero
+returns-else-is_zero c =
+    let m = c.args.m in
+    c.if-is_zero.false ∙ sym (down-not m.state.now m.history.now m.image.now c.if-s.false (sym c.is_zero.ensures ∙ c.if-is_zero.false))

@@ -1,14 +1,10 @@
--- `walk::same` meets its contract. The invariant: the bytes passed are the same.
+-- `walk::same` meets its contract: the bytes of a record are those of no other.
 -- Assumes nothing.
-use mathlib.Core.Path.{sym}
-use Rattle.memory.proofs.Runs.{same_none, same_more}
-use borrow.Author.Rules.{rules}
+use mathlib.Core.Path.{◌∙◌}
+use Rattle.memory.proofs.Same.{same_eq, bytes_same}
 use Rattle.memory.proofs.walk.same.Goals as goal
 
-pub loop-i-init : goal.loop-i-init
-loop-i-init c =
-    (search rules, sym (same_none c.args.a.now c.args.b.now c.requires))
-
-pub loop-i-preserved : goal.loop-i-preserved
-loop-i-preserved c =
-    (search rules, rw c.loop-i.invariant.1 (sym (same_more c.args.a.now c.args.b.now c.requires c.loop-i.i c.loop-i-test.true)))
+pub returns : goal.returns
+returns c =
+    let a = c.args in
+    c.equal.ensures ∙ same_eq a.a.now a.b.now ∙ bytes_same a.a.now a.b.now c.told-a c.told-b c.fits-a c.fits-b

@@ -1,18 +1,13 @@
 -- `reader::first_place` meets its contract: the answer of the check picks the place.
 -- Assumes nothing.
-use mathlib.Core.Path.{sym}
-use Rattle.notes.proofs.Answers.{update-right, refused-wrong}
-use Rattle.notes.proofs.Reading.{first-right, first-refused, check-right, check-refused}
+use Rattle.std.proofs.Common.{rules}
+use Rattle.notes.proofs.Reading.{begin-passed, begin-checked}
 use Rattle.notes.proofs.reader.first_place.Goals as goal
 
-pub returns-in-Update : goal.returns-in-Update
-returns-in-Update c =
-    let m = c.args.m.now in
-    let right = (update-right m _ c.in-Update.ensures).0 in
-    (sym (first-right m right), sym (check-right m right))
+pub returns-in_err-check : goal.returns-in_err-check
+returns-in_err-check c =
+    let e = begin-checked c.args.m.now _ c.in_err-check.ensures in search rules
 
-pub returns-in-Refused : goal.returns-in-Refused
-returns-in-Refused c =
-    let m = c.args.m.now in
-    let wrong = refused-wrong m _ c.in-Refused.ensures in
-    (sym (first-refused m wrong), sym (check-refused m wrong))
+pub returns : goal.returns
+returns c =
+    begin-passed c.args.m.now _ c.in_ok-check.ensures

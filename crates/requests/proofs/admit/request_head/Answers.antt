@@ -1,37 +1,31 @@
 -- `admit::request_head` meets its contract: the head, then the request's own rows.
 -- Assumes nothing.
-use mathlib.Core.Bool.{false}
-use mathlib.Core.Option.{none}
+use mathlib.Core.Option.{some}
 use mathlib.Core.Path.{◌≡◌, sym, ◌∙◌}
-use Rattle.notes.specs.Reply.{first}
-use Rattle.rules.specs.Memory.{Memory, memory}
-use Rattle.rules.specs.Answer.{head, is_down}
-use Rattle.rules.specs.Request.{out_of_range}
+use Rattle.memory.specs.Lent.{looked_at}
+use Rattle.rules.specs.Answer.{verdict_refusal}
 use Rattle.requests.proofs.Admitting.{request-refused, request-out, request-behind, request-full}
+use borrow.Author.Rules.{rules}
 use Rattle.requests.proofs.admit.request_head.Goals as goal
 
-pub returns-in-Refused : goal.returns-in-Refused
-returns-in-Refused c =
-    let found : Memory = memory c.args.s c.args.history.now c.args.image.now in
-    sym (request-refused found c.args.at c.args.phone c.args.q c.args.asked _ (sym c.in-Refused.ensures))
+pub returns-in_err-up_head : goal.returns-in_err-up_head
+returns-in_err-up_head c =
+    let a = c.args.ask in
+    let told : verdict_refusal c.from_residual.result ≡ some c.in_err-up_head.field-0.0 = search rules in
+    told ∙ sym (request-refused (looked_at c.args.m) a.server a.phone a.request a.vector _ (sym c.in_err-up_head.ensures))
 
 pub returns-then-out_of_range : goal.returns-then-out_of_range
 returns-then-out_of_range c =
-    let found : Memory = memory c.args.s c.args.history.now c.args.image.now in
-    let up : first (head found (is_down found)) ≡ none = sym c.in_default.ensures in
-    sym (request-out found c.args.at c.args.phone c.args.q c.args.asked up (sym c.out_of_range.ensures ∙ c.if-out_of_range.true))
+    let a = c.args.ask in
+    sym (request-out (looked_at c.args.m) a.server a.phone a.request a.vector (sym c.in_ok-up_head.ensures) (sym c.if-out_of_range.ensures))
 
 pub returns-then-is_behind : goal.returns-then-is_behind
 returns-then-is_behind c =
-    let found : Memory = memory c.args.s c.args.history.now c.args.image.now in
-    let up : first (head found (is_down found)) ≡ none = sym c.in_default.ensures in
-    let ranged : out_of_range found c.args.at c.args.phone c.args.q c.args.asked ≡ false = sym c.out_of_range.ensures ∙ c.if-out_of_range.false in
-    sym (request-behind found c.args.at c.args.phone c.args.q c.args.asked up ranged (sym c.is_behind.ensures ∙ c.if-is_behind.true))
+    let a = c.args.ask in
+    sym (request-behind (looked_at c.args.m) a.server a.phone a.request a.vector (sym c.in_ok-up_head.ensures) (sym c.if-out_of_range.ensures) (sym c.if-is_behind.ensures))
 
 pub returns : goal.returns
 returns c =
-    let found : Memory = memory c.args.s c.args.history.now c.args.image.now in
-    let up : first (head found (is_down found)) ≡ none = sym c.in_default.ensures in
-    let ranged : out_of_range found c.args.at c.args.phone c.args.q c.args.asked ≡ false = sym c.out_of_range.ensures ∙ c.if-out_of_range.false in
-    c.full.ensures c.args.history.now
-    ∙ sym (request-full found c.args.at c.args.phone c.args.q c.args.asked up ranged (sym c.is_behind.ensures ∙ c.if-is_behind.false))
+    let a = c.args.ask in
+    c.full.ensures c.args.m.history.now
+    ∙ sym (request-full (looked_at c.args.m) a.server a.phone a.request a.vector (sym c.in_ok-up_head.ensures) (sym c.if-out_of_range.ensures) (sym c.if-is_behind.ensures))

@@ -9,9 +9,9 @@ use Rattle.requests.proofs.read.read_cut.Goals as goal
 pub store_due-requires : goal.store_due-requires
 store_due-requires c =
     let a = c.args in
-    (room (memory a.s a.history.now a.image.now) a.phone (Read a.cell) c.requires, c.requires.phone)
+    room (memory a.s a.history.now a.image.now) a.phone (Read a.cell) c.requires
 
 pub returns : goal.returns
 unfolding cut_after
 returns c =
-    rw (c.finished.ensures, c.down.ensures, c.store_due.ensures c.args.cell)
+    rw (c.down.ensures, c.store_due.ensures c.args.cell)

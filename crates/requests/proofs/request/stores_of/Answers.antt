@@ -2,7 +2,8 @@
 -- Assumes nothing.
 use mathlib.Core.Path.{sym, ap, ◌∙◌, subst}
 use lib.ListN.{length}
-use Rattle.rules.specs.Memory.{Memory, memory}
+use Rattle.memory.specs.Lent.{looked_at}
+use Rattle.rules.specs.Memory.{Memory}
 use Rattle.rules.specs.Request.{plan}
 use Rattle.rules.specs.declared.event.Request.{Request}
 use Rattle.laws.proofs.Passed.{Admitted}
@@ -12,12 +13,11 @@ use Rattle.requests.proofs.request.stores_of.Goals as goal
 
 pub read_stores-requires : goal.read_stores-requires
 read_stores-requires c =
-    let found : Memory = memory c.args.s c.args.history.now c.args.image.now in
-    (room found c.args.phone c.args.q c.requires, c.requires.phone)
+    (room (looked_at c.args.m) c.args.phone c.args.q c.requires, c.requires.phone)
 
 pub returns-in-Write : goal.returns-in-Write
 returns-in-Write c =
-    let found : Memory = memory c.args.s c.args.history.now c.args.image.now in
+    let found : Memory = looked_at c.args.m in
     let is = c.in-Write.is in
     sym
     (ap (λ (q : Request). length (plan found c.args.phone q)) is

@@ -1,33 +1,28 @@
--- `winner::winner` meets its contract. The invariant: the best so far is the winner among the records passed.
+-- `winner::winner` meets its contract: the best of the cell's records, as they come, is the winner.
 -- Assumes nothing.
-use native.Mathlib.Nat.{add-sub_cancel_left}
-use mathlib.Core.Option.{some}
-use mathlib.Core.Path.{ap, ◌∙◌}
+use mathlib.Core.List.{map}
+use mathlib.Core.Path.{◌≡◌, sym}
+use Rattle.std.proofs.Common.{rules, tests}
+use Rattle.std.proofs.lemmas.Iterator.{YieldsList-from_slice}
+use Rattle.std.proofs.lemmas.Iterator.Consumers.{YieldsList-from_filter}
 use Rattle.notes.specs.Record.{decode}
-use Rattle.requests.proofs.Winners.{leads-none, leads-more, won-none, won-some}
-use borrow.Author.Rules.{rules}
+use Rattle.rules.specs.Writes.{winner}
+use Rattle.requests.proofs.Winners.{shown_by, winner-walked}
 use Rattle.requests.proofs.winner.winner.Goals as goal
+use Rattle.requests.proofs.winner.winner.Goals.{After-reduce}
 
-pub loop-k-init : goal.loop-k-init
-loop-k-init c =
-    (search rules, leads-none c.args.cell c.args.held c.args.history.now)
+walk : (c : After-reduce) → shown_by c.reduce.result ≡ winner c.args.cell (map decode c.args.records.now)
+unfolding decode
+walk c =
+    winner-walked _ _ (λ a x r q k. search (rules, tests)) c.args.cell c.args.records.now c.reduce.result c.reduce.ensures.ran (YieldsList-from_filter _ _ (YieldsList-from_slice c.args.records.now cc) c.filter.ensures.closure (λ x r q k. search (rules, tests)))
 
-pub loop-k-preserved : goal.loop-k-preserved
-loop-k-preserved c =
-    let a = c.args in (
-      search rules,
-      leads-more a.cell a.held a.history.now c.loop-k.k c.loop-k.best c.better-best.result c.loop-k-test.true c.loop-k.invariant.1 c.better-best.ensures,
-    )
-
-pub returns-then-held-best : goal.returns-then-held-best
-returns-then-held-best c =
-    let a = c.args in
-    won-none a.cell a.held a.history.now c.loop-k.k c.loop-k.best c.loop-k-test.false c.loop-k.invariant.1 c.if-held-best.true
+pub returns-in_err-best : goal.returns-in_err-best
+returns-in_err-best c =
+    let e = walk (goal.at.returns-in_err-best c).After-reduce in
+    rw (c.from_residual.ensures, sym e, c.in_err-best.was)
 
 pub returns : goal.returns
 unfolding decode
 returns c =
-    let a = c.args in
-    let value = rw add-sub_cancel_left at c.u32_at.ensures in
-    ap some value
-    ∙ won-some a.cell a.held a.history.now c.loop-k.k c.loop-k.best c.loop-k-test.false c.loop-k.invariant.1 c.if-held-best.false
+    let e = walk (goal.at.returns c).After-reduce in
+    rw (sym e, c.in_ok-best.was, c.at.ensures)

@@ -2,27 +2,33 @@
 -- Assumes nothing.
 use mathlib.Core.Path.{sym}
 use native.Mathlib.Omega.{arith}
-use Rattle.rules.specs.Memory.{Memory, memory}
-use Rattle.rules.specs.declared.event.Request.TheVariants.{Write}
+use Rattle.memory.specs.Lent.{server}
+use Rattle.rules.specs.Memory.{Memory}
+use Rattle.requests.specs.Forms.{writing}
 use Rattle.requests.proofs.Written.{small, plan-whole, write-served}
 use Rattle.requests.proofs.write.write.Goals as goal
 
-pub new_vector-requires : goal.new_vector-requires
-new_vector-requires c =
-    let a = c.args in
-    let found : Memory = memory a.s a.history.now a.image.now in
-    small found a.phone (Write a.cell a.value a.time) c.requires
+pub store_new-bytes-requires : goal.store_new-bytes-requires
+store_new-bytes-requires c =
+    rw c.take-history.ensures.value c.requires
 
-pub one_more-requires : goal.one_more-requires
-one_more-requires c =
+pub one_more-m-requires : goal.one_more-m-requires
+one_more-m-requires c =
     let a = c.args in
-    let found : Memory = memory a.s a.history.now a.image.now in
-    small found a.phone (Write a.cell a.value a.time) c.requires
+    small (server a.m.now) a.note.phone (writing a.note) c.requires
 
-pub returns : goal.returns
-returns c =
-    let a = c.args in
-    let found : Memory = memory a.s a.history.now a.image.now in
-    let whole = plan-whole found a.phone a.cell a.value a.time c.requires 29 (omega arith) in
-    rw (c.one_more.ensures, c.new_vector.ensures, c.put_bytes.ensures, c.store_new-record.ensures.image, c.store_new-record.ensures.bytes, whole)
-    (sym (write-served found a.phone a.cell a.value a.time c.requires))
+pub returns-clause-effect : goal.returns-clause-effect
+returns-clause-effect c =
+    let found : Memory = server c.args.m.now in
+    let n = c.args.note in
+    let made = rw c.take-history.ensures.value at c.store_new-bytes.ensures in
+    rw (
+      c.one_more-m.ensures,
+      c.put_bytes.ensures,
+      c.from.ensures,
+      c.take-history.ensures.value,
+      made.image,
+      made.bytes,
+      plan-whole found n.phone n.cell n.value n.time c.requires 29 (omega arith),
+    )
+    (sym (write-served found n.phone n.cell n.value n.time c.requires))

@@ -1,42 +1,41 @@
 -- `recovery::recovery` meets its contract: what is refused, or what the image gives.
 -- Assumes nothing.
-use mathlib.Core.Option.{none}
-use mathlib.Core.Path.{◌≡◌, sym, ap, ◌∙◌}
-use Rattle.notes.specs.Reply.{first}
-use Rattle.rules.specs.Memory.{Memory, memory}
-use Rattle.rules.specs.Sound.{recover}
-use Rattle.rules.specs.Answer.{verdict_refusal, here_refusals, finished}
-use Rattle.rules.specs.Step.{plain_refusals, recovery}
-use Rattle.laws.proofs.Passed.{head-known, head-right}
+use mathlib.Core.Path.{◌≡◌}
+use Rattle.std.specs.Prelude.{Err}
+use borrow.Author.Rules.{rules}
+use Rattle.memory.specs.Lent.{server}
+use Rattle.rules.specs.Memory.{Memory}
+use Rattle.rules.specs.Answer.{finished}
+use Rattle.rules.specs.Step.{recovery}
 use Rattle.memory.proofs.Tested.{down-suits}
-use Rattle.server.proofs.Plain.{plain-told}
+use Rattle.server.proofs.Plain.{plain-headed, plain-elsewhere, plain-passed, plain-known}
 use Rattle.server.proofs.recovery.recovery.Goals as goal
 
-pub returns-in-Refused : goal.returns-in-Refused
+pub returns-in_err-down_head-clause-effect : goal.returns-in_err-down_head-clause-effect
 unfolding recovery
-returns-in-Refused c =
-    let found : Memory = memory c.args.s c.args.history.now c.args.image.now in
-    rw (c.refused.ensures, sym (c.in-Refused.ensures ∙ plain-told found c.args.at c.args.s.up _ c.down_head-told.ensures))
+returns-in_err-down_head-clause-effect c =
+    let told : c.from_residual.result ≡ Err c.in_err-down_head.field-0.0 = search rules in
+    rw told (plain-headed _ (server c.args.m.now) c.lent.ensures (λ (m : Memory). m.state.up) c.args.at _ _ c.in_err-down_head.ensures)
+
+pub returns-in_err-here-clause-effect : goal.returns-in_err-here-clause-effect
+unfolding recovery
+returns-in_err-here-clause-effect c =
+    let told : c.from_residual-in_err-here.result ≡ Err c.in_err-here.field-0.0 = search rules in
+    rw told
+    (plain-elsewhere _ (server c.args.m.now) c.lent.ensures (λ (m : Memory). m.state.up) c.args.at _ c.in_ok-down_head.ensures _ c.in_err-here.ensures)
 
 pub recover-requires : goal.recover-requires
-unfolding plain_refusals
 recover-requires c =
-    let found : Memory = memory c.args.s c.args.history.now c.args.image.now in
-    let told : verdict_refusal c.or_elsewhere.result ≡ first (plain_refusals found c.args.s.up c.args.at) = c.or_elsewhere.ensures ∙ plain-told found c.args.at c.args.s.up _ c.down_head-told.ensures in
-    let passed : first (plain_refusals found c.args.s.up c.args.at) ≡ none = sym told ∙ ap verdict_refusal c.in_default.is in
-    let a = c.args in
-    let rest = here_refusals found a.at in
-    let h = head-known found a.s.up rest passed in
+    let m = server c.args.m.now in
+    let known = plain-known _ m c.lent.ensures (λ (m : Memory). m.state.up) c.args.at (finished m) c.in_ok-down_head.ensures c.in_ok-here.ensures in
     record {
-      history = h.history;
-      image = h.image;
-      suits = down-suits a.s a.history.now a.image.now (head-right found a.s.up rest passed) h.sound;
+      history = known.head.history;
+      image = known.head.image;
+      suits = down-suits m.state m.history m.image known.right known.head.sound;
     }
 
-pub returns : goal.returns
-unfolding recovery recover
-returns c =
-    let found : Memory = memory c.args.s c.args.history.now c.args.image.now in
-    let told : verdict_refusal c.or_elsewhere.result ≡ first (plain_refusals found c.args.s.up c.args.at) = c.or_elsewhere.ensures ∙ plain-told found c.args.at c.args.s.up _ c.down_head-told.ensures in
-    let passed : first (plain_refusals found c.args.s.up c.args.at) ≡ none = sym told ∙ ap verdict_refusal c.in_default.is in
-    rw (c.finished.ensures, passed) (ap finished c.recover.ensures)
+pub returns-clause-effect : goal.returns-clause-effect
+unfolding recovery
+returns-clause-effect c =
+    rw c.recover.ensures.effect
+    (plain-passed _ (server c.args.m.now) c.lent.ensures (λ (m : Memory). m.state.up) c.args.at _ c.in_ok-down_head.ensures c.in_ok-here.ensures)

@@ -1,83 +1,67 @@
 -- `take::in_turn` meets its contract. The invariant: what the writes give is what those left give behind the new ones.
 -- Assumes nothing.
-use Prim.Native.Nat.{ℕ, ◌*◌, ◌<◌}
-use mathlib.Core.Path.{◌≡◌, sym, ◌∙◌}
-use native.Mathlib.Nat.{add-sub_cancel_left}
-use native.Mathlib.Omega.{arith}
+use Prim.Native.Nat.{ℕ}
+use mathlib.Core.Path.{ap, sym, ◌∙◌}
 use lib.ListN.{get_or}
-use Rattle.notes.specs.Index.{servers}
-use Rattle.notes.specs.Record.{record_size, number}
-use Rattle.memory.proofs.Walks.{this}
-use Rattle.server.proofs.Taking.{listed-origin, listed-part, all-taken, skips-at, own_at, gap_at, appends-at}
-use borrow.Author.Rules.{rules}
+use native.Mathlib.Omega.{arith}
+use Rattle.server.proofs.Taking.{listed-item, all-taken, skips-at, own_at, gap_at, appends-at}
 use Rattle.server.proofs.take.in_turn.Goals as goal
+use Rattle.server.proofs.take.in_turn.Goals.{then-known-number+else-eq+else-number-known-ne1, else-known-number}
 
 pub number_of-number-requires : goal.number_of-number-requires
-number_of-number-requires c =
-    listed-part c.args.b.now c.args.count c.loop-k.k c.requires c.loop-k-test.true
+number_of-number-requires c = listed-item c.args.records.now _ c.loop-record-test.true c.requires c.told-records
 
-pub returns-then-b-at : goal.returns-then-b-at
-returns-then-b-at c =
-    let origin : ℕ = get_or c.args.b.now (record_size * c.loop-k.k) 0 in
-    let numbered : c.number_of-number.result ≡ number (this 0 c.args.count c.args.b.now c.loop-k.k) = rw add-sub_cancel_left at c.number_of-number.ensures in
-    let higher : get_or c.loop-k.vector.counts origin 0 < number (this 0 c.args.count c.args.b.now c.loop-k.k) = rw numbered at c.if-known-number.true in
-    let a = c.args in
-    let l = c.loop-k in
-    own_at a.b.now a.count l.k l.vector a.own c.loop-k-test.true higher c.if-b-at.true l.new
-    ∙ sym l.invariant.2
+pub bounds-vector-from : goal.bounds-vector-from
+bounds-vector-from c =
+    let low = (listed-item c.args.records.now _ c.loop-record-test.true c.requires c.told-records).1 in
+    omega (arith, c.from.ensures, low)
+
+pub after-vector-requires : goal.after-vector-requires
+after-vector-requires c = (listed-item c.args.records.now _ c.loop-record-test.true c.requires c.told-records).1
+
+pub returns-then-eq : goal.returns-then-eq
+returns-then-eq c =
+    let l = c.loop-record in
+    sym
+    (l.invariant.1
+    ∙ own_at c.args.records.now l.record-index c.loop-record-test.true l.vector _ _ (ap (λ (o : ℕ). get_or l.vector.counts o 0) c.from.ensures) c.number_of-number.ensures c.args.own
+    c.if-known-number.true
+    l.new
+    (sym c.eq.ensures ∙ c.if-eq.true))
 
 pub returns-then-number-known-ne1 : goal.returns-then-number-known-ne1
 returns-then-number-known-ne1 c =
-    let numbered : c.number_of-number.result ≡ number (this 0 c.args.count c.args.b.now c.loop-k.k) = rw add-sub_cancel_left at c.number_of-number.ensures in
-    let origin : ℕ = get_or c.args.b.now (record_size * c.loop-k.k) 0 in
-    let higher : get_or c.loop-k.vector.counts origin 0 < number (this 0 c.args.count c.args.b.now c.loop-k.k) = rw numbered at c.if-known-number.true in
-    let a = c.args in
-    let l = c.loop-k in
-    gap_at a.b.now a.count l.k l.vector a.own c.loop-k-test.true higher c.if-b-at.false
-    (λ q. c.if-number-known-ne1.true (omega (arith, numbered, q)))
+    let l = c.loop-record in
+    sym
+    (l.invariant.1
+    ∙ gap_at c.args.records.now l.record-index c.loop-record-test.true l.vector _ _ (ap (λ (o : ℕ). get_or l.vector.counts o 0) c.from.ensures) c.number_of-number.ensures c.args.own
+    c.if-known-number.true
     l.new
-    ∙ sym l.invariant.2
+    (sym c.eq.ensures ∙ c.if-eq.false)
+    c.if-number-known-ne1.true)
 
-pub after-vector-requires : goal.after-vector-requires
-after-vector-requires c =
-    listed-part c.args.b.now c.args.count c.loop-k.k c.requires c.loop-k-test.true
-
-pub loop-k-preserved-then-known-number : goal.loop-k-preserved-then-known-number
-loop-k-preserved-then-known-number c =
-    let numbered : c.number_of-number.result ≡ number (this 0 c.args.count c.args.b.now c.loop-k.k) = rw add-sub_cancel_left at c.number_of-number.ensures in
-    let origin : ℕ = get_or c.args.b.now (record_size * c.loop-k.k) 0 in
-    let higher : get_or c.loop-k.vector.counts origin 0 < number (this 0 c.args.count c.args.b.now c.loop-k.k) = rw numbered at c.if-known-number.true in
-    let a = c.args in
-    let l = c.loop-k in
-    let raised = rw add-sub_cancel_left at c.after-vector.ensures in (
-      search rules,
-      omega (arith, l.invariant.1),
-      rw raised
-          (l.invariant.2
-          ∙ appends-at a.b.now a.count l.k l.vector a.own c.loop-k-test.true higher c.if-b-at.false
-          (omega (arith, numbered))
-          l.new),
-    )
-
-pub loop-k-preserved : goal.loop-k-preserved
-loop-k-preserved c =
-    let numbered : c.number_of-number.result ≡ number (this 0 c.args.count c.args.b.now c.loop-k.k) = rw add-sub_cancel_left at c.number_of-number.ensures in
-    let a = c.args in
-    let l = c.loop-k in (
-      search rules,
-      omega (arith, l.invariant.1),
-      l.invariant.2
-          ∙ rw (skips-at a.b.now a.count l.k l.vector a.own c.loop-k-test.true (rw numbered at c.if-known-number.false)),
-    )
+pub loop-record-preserved : goal.loop-record-preserved
+loop-record-preserved c =
+    let l = c.loop-record in
+    elim c.if-known-number.branch [
+      | then-known-number+else-eq+else-number-known-ne1 w ↦ (
+        omega (arith, w.new-is, l.invariant.0),
+        l.invariant.1
+            ∙ appends-at c.args.records.now l.record-index c.loop-record-test.true l.vector _ _ (ap (λ (o : ℕ). get_or l.vector.counts o 0) c.from.ensures) c.number_of-number.ensures c.args.own
+            w.if-known-number.true
+            l.new
+            (sym w.eq.ensures ∙ w.if-eq.false)
+            (omega arith)
+            ∙ rw (w.new-is, w.vector-is, w.after-vector.ensures),
+      )
+      | else-known-number w ↦ (
+        omega (arith, w.new-is, l.invariant.0),
+        l.invariant.1
+            ∙ rw (w.new-is, w.vector-is, skips-at c.args.records.now l.record-index c.loop-record-test.true l.vector _ _ (ap (λ (o : ℕ). get_or l.vector.counts o 0) c.from.ensures) c.number_of-number.ensures c.args.own w.if-known-number.false),
+      )
+    ]
 
 pub returns : goal.returns
 returns c =
-    let a = c.args in
-    let l = c.loop-k in
-    all-taken a.b.now a.count l.k l.vector a.own c.loop-k-test.false l.new ∙ sym l.invariant.2
-
-pub bounds-vector-o : goal.bounds-vector-o
-bounds-vector-o c =
-    let origin : ℕ = get_or c.args.b.now (record_size * c.loop-k.k) 0 in
-    let low : origin < servers = listed-origin c.args.b.now c.args.count c.loop-k.k c.requires c.loop-k-test.true in
-    low
+    let l = c.loop-record in
+    sym (l.invariant.1 ∙ all-taken c.args.records.now l.record-index c.loop-record-test.false l.vector c.args.own l.new)

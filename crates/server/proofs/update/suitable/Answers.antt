@@ -1,19 +1,25 @@
--- `update::suitable` meets its contract: each test decides where it stops.
+-- `update::suitable` meets its contract: N decides, and then the sender.
 -- Assumes nothing.
 use mathlib.Core.List.{[]}
-use mathlib.Core.Path.{refl, sym}
+use mathlib.Core.Path.{sym, ◌∙◌}
+use borrow.Author.Tests.{eq-eqb, ne_eqb}
 use Rattle.rules.specs.Memory.{memory}
-use Rattle.server.proofs.Updating.{unsuited-refused, unsuited-n, suited-decides}
+use Rattle.server.proofs.Updating.{unsuited-refused, suited-decides}
 use Rattle.server.proofs.update.suitable.Goals as goal
 
-pub returns-in_default : goal.returns-in_default
-returns-in_default c =
-    sym (unsuited-refused (memory c.args.s [] []) c.args.message.now _ _ c.check.ensures c.in_default.is)
+pub returns-then-said-s : goal.returns-then-said-s
+returns-then-said-s c =
+    let said = c.in-Ok.said in
+    c.ne.ensures
+    ∙ sym
+    (suited-decides (memory c.args.s.now [] []) c.args.message.now said c.in-Ok.ensures
+    ∙ rw (eq-eqb said.n c.args.s.now.n c.if-said-s.true))
 
-pub returns-then-h-s : goal.returns-then-h-s
-returns-then-h-s c =
-    sym (unsuited-n (memory c.args.s [] []) c.args.message.now _ c.in-Update.h c.in-Update.ensures refl c.if-h-s.true)
+pub returns-else-said-s : goal.returns-else-said-s
+returns-else-said-s c =
+    let said = c.in-Ok.said in
+    let e = ne_eqb said.n c.args.s.now.n c.if-said-s.false in
+    e ∙ sym (suited-decides (memory c.args.s.now [] []) c.args.message.now said c.in-Ok.ensures ∙ rw e)
 
-pub returns : goal.returns
-returns c =
-    sym (suited-decides (memory c.args.s [] []) c.args.message.now _ c.in-Update.h c.in-Update.ensures refl c.if-h-s.false)
+pub returns-in-Err : goal.returns-in-Err
+returns-in-Err c = sym (unsuited-refused (memory c.args.s.now [] []) c.args.message.now _ c.in-Err.ensures)

@@ -1,177 +1,104 @@
 -- `update::update` meets its contract: what is refused, or the new writes behind those held.
 -- Assumes nothing.
-use Prim.Native.Nat.{◌+◌, ◌≤◌}
-use mathlib.Core.Bool.{true}
+use Prim.Native.Nat.{◌-◌, ◌≤◌}
+use mathlib.Core.List.{map}
 use mathlib.Core.Option.{none}
 use mathlib.Core.Path.{◌≡◌, sym, ap, ◌∙◌}
 use native.Mathlib.Omega.{arith}
-use lib.ListN.{length}
-use Rattle.notes.specs.Lists.{every}
-use Rattle.notes.specs.Message.{header_size, history_most, brought}
+use borrow.Author.Rules.{rules}
+use Rattle.std.specs.Prelude.{Ok, Err}
+use Rattle.notes.specs.Message.{history_most, brought}
+use Rattle.notes.specs.Record.{decode}
 use Rattle.notes.specs.Reply.{first}
-use Rattle.rules.specs.Memory.{Memory, memory}
-use Rattle.rules.specs.Answer.{verdict_refusal}
-use Rattle.rules.specs.Step.{Taken, taken_from, arrival_refusals}
-use Rattle.laws.proofs.Passed.{Arrived, arrived}
-use Rattle.server.specs.Forms.{origin_ok, Seen, takes_of, seen}
-use Rattle.server.proofs.Taking.{taken-ahead}
-use Rattle.server.proofs.Updating.{brought-at, brought-listed, arrived-few, arrived-long, arrived-origins, update-refused, update-stopped, update-full, update-done, update_same}
+use Rattle.rules.specs.Memory.{Memory}
+use Rattle.rules.specs.Step.{taken_from, arrival_refusals}
+use Rattle.memory.specs.Lent.{server}
+use Rattle.server.specs.Forms.{takes_of, seen}
+use Rattle.server.proofs.Updating.{brought-records, arrived-few, arrived-long, arrived-origins, update-refused, update-stopped, update-full, took-room, took-fits, update-done, update_same}
 use Rattle.server.proofs.update.update.Goals as goal
+use Rattle.server.proofs.update.update.Goals.{In_ok-arrival, In_ok-found, After-first_records-records, then-found-ne0, else-found-ne0}
 
-pub returns-in-Refused : goal.returns-in-Refused
-returns-in-Refused c =
-    let found : Memory = memory c.args.s c.args.history.now c.args.image.now in
-    rw (
-      c.refused.ensures,
-      update-refused found c.args.at c.args.message.now _ (sym c.in-Refused.ensures),
-    )
+-- nothing is refused before the writes
+arrived : (c : In_ok-arrival) → none ≡ first (arrival_refusals (server c.args.m.now) c.args.at c.args.message.now)
+arrived c = c.in_ok-arrival.ensures ∙ ap (λ (m : Memory). first (arrival_refusals m c.args.at c.args.message.now)) c.lent.ensures
 
-pub in_turn-found-requires : goal.in_turn-found-requires
-in_turn-found-requires c =
-    let found : Memory = memory c.args.s c.args.history.now c.args.image.now in
-    let unrefused : first (arrival_refusals found c.args.at c.args.message.now) ≡ none = sym c.arrival.ensures ∙ ap verdict_refusal c.in_default.is in
-    let here : Arrived found c.args.at c.args.message.now = arrived found c.args.at c.args.message.now unrefused in
-    let origins : every origin_ok (brought c.args.message.now) ≡ true = arrived-origins found c.args.at c.args.message.now here in
-    brought-listed c.args.message.now origins
+-- the records are the writes
+writes : (c : After-first_records-records) → map decode c.first_records-records.result.now ≡ brought c.args.message.now
+writes c = brought-records c.args.message.now _ c.first_records-records.ensures
 
-pub returns-in-Refused-refusal : goal.returns-in-Refused-refusal
-returns-in-Refused-refusal c =
-    let found : Memory = memory c.args.s c.args.history.now c.args.image.now in
-    let unrefused : first (arrival_refusals found c.args.at c.args.message.now) ≡ none = sym c.arrival.ensures ∙ ap verdict_refusal c.in_default.is in
-    let turns : Taken = taken_from found c.args.message.now in
-    let gave : takes_of c.in_turn-found.result ≡ seen turns = rw (brought-at c.args.message.now) at c.in_turn-found.ensures in
-    rw (
-      c.refused-in-Refused-refusal.ensures,
-      update-stopped found c.args.at c.args.message.now unrefused _ (sym (ap (λ (x : Seen). x.refusal) gave) ∙ ap verdict_refusal c.in-Refused-refusal.is),
-    )
+-- and what taking them gave
+gave : (c : In_ok-found) → takes_of (Ok c.in_ok-found.found) ≡ seen (taken_from (server c.args.m.now) c.args.message.now)
+gave c = rw (brought-records c.args.message.now _ c.first_records-records.ensures) at c.in_ok-found.ensures
 
-pub returns-then-held-found : goal.returns-then-held-found
-returns-then-held-found c =
-    let found : Memory = memory c.args.s c.args.history.now c.args.image.now in
-    let unrefused : first (arrival_refusals found c.args.at c.args.message.now) ≡ none = sym c.arrival.ensures ∙ ap verdict_refusal c.in_default.is in
-    let turns : Taken = taken_from found c.args.message.now in
-    let gave : takes_of c.in_turn-found.result ≡ seen turns = rw (brought-at c.args.message.now) at c.in_turn-found.ensures in
-    let new : c.in_turn-found.result.new ≡ length turns.new = ap (λ (x : Seen). x.new) gave in
-    let fits : turns.refusal ≡ none = sym (ap (λ (x : Seen). x.refusal) gave) ∙ ap verdict_refusal c.in_default-refusal.is in
-    rw (
-      c.refused-then-held-found.ensures,
-      update-full found c.args.at c.args.message.now unrefused fits (omega (arith, c.if-held-found.true, new)),
-    )
+pub returns-in_err-arrival-clause-effect : goal.returns-in_err-arrival-clause-effect
+returns-in_err-arrival-clause-effect c =
+    let told : c.from_residual.result ≡ Err c.in_err-arrival.field-0.0 = search rules in
+    rw told
+    (sym
+    (update-refused (server c.args.m.now) c.args.at c.args.message.now _
+    (c.in_err-arrival.ensures ∙ ap (λ (m : Memory). first (arrival_refusals m c.args.at c.args.message.now)) c.lent.ensures)))
 
-pub returns-then-found-eq0 : goal.returns-then-found-eq0
-returns-then-found-eq0 c =
-    let found : Memory = memory c.args.s c.args.history.now c.args.image.now in
-    let unrefused : first (arrival_refusals found c.args.at c.args.message.now) ≡ none = sym c.arrival.ensures ∙ ap verdict_refusal c.in_default.is in
-    let turns : Taken = taken_from found c.args.message.now in
-    let gave : takes_of c.in_turn-found.result ≡ seen turns = rw (brought-at c.args.message.now) at c.in_turn-found.ensures in
-    let new : c.in_turn-found.result.new ≡ length turns.new = ap (λ (x : Seen). x.new) gave in
-    let vector : c.in_turn-found.result.vector ≡ turns.vector = ap (λ (x : Seen). x.vector) gave in
-    let fits : turns.refusal ≡ none = sym (ap (λ (x : Seen). x.refusal) gave) ∙ ap verdict_refusal c.in_default-refusal.is in
-    let here : Arrived found c.args.at c.args.message.now = arrived found c.args.at c.args.message.now unrefused in
-    let few : c.args.s.held ≤ history_most = arrived-few found c.args.at c.args.message.now here in
-    let room : c.args.s.held + length turns.new ≤ history_most = omega (arith, few, c.if-held-found.false, new) in
-    rw (
-      c.finished.ensures,
-      c.taken-next.ensures,
-      new,
-      vector,
-      update_same found c.args.at c.args.message.now unrefused fits room (sym new ∙ c.if-found-eq0.true),
-    )
+pub slice_bounds-body-count : goal.slice_bounds-body-count
+slice_bounds-body-count c =
+    arrived-long (server c.args.m.now) c.args.at c.args.message.now (arrived (goal.at.slice_bounds-body-count c).In_ok-arrival)
 
-pub append-requires : goal.append-requires
-append-requires c =
-    let found : Memory = memory c.args.s c.args.history.now c.args.image.now in
-    let unrefused : first (arrival_refusals found c.args.at c.args.message.now) ≡ none = sym c.arrival.ensures ∙ ap verdict_refusal c.in_default.is in
-    let here : Arrived found c.args.at c.args.message.now = arrived found c.args.at c.args.message.now unrefused in
-    let turns : Taken = taken_from found c.args.message.now in
-    let gave : takes_of c.in_turn-found.result ≡ seen turns = rw (brought-at c.args.message.now) at c.in_turn-found.ensures in
-    let fits : turns.refusal ≡ none = sym (ap (λ (x : Seen). x.refusal) gave) ∙ ap verdict_refusal c.in_default-refusal.is in
-    let few : c.args.s.held ≤ history_most = arrived-few found c.args.at c.args.message.now here in
-    let new : c.in_turn-found.result.new ≡ length turns.new = ap (λ (x : Seen). x.new) gave in
-    let room : c.args.s.held + length turns.new ≤ history_most = omega (arith, few, c.if-held-found.false, new) in
-    let origins : every origin_ok (brought c.args.message.now) ≡ true = arrived-origins found c.args.at c.args.message.now here in
-    let msg = c.args.message.now in
-    let ahead-are = taken-ahead c.args.s.own c.args.s.vector (brought msg) fits in
-    (brought-listed msg origins, rw (brought-at msg, ← ahead-are) (omega (arith, room, here.head.history)))
+pub slice_bounds-body-start : goal.slice_bounds-body-start
+slice_bounds-body-start c =
+    arrived-long (server c.args.m.now) c.args.at c.args.message.now (arrived (goal.at.slice_bounds-body-start c).In_ok-arrival)
 
-pub returns : goal.returns
-returns c =
-    let found : Memory = memory c.args.s c.args.history.now c.args.image.now in
-    let unrefused : first (arrival_refusals found c.args.at c.args.message.now) ≡ none = sym c.arrival.ensures ∙ ap verdict_refusal c.in_default.is in
-    let turns : Taken = taken_from found c.args.message.now in
-    let gave : takes_of c.in_turn-found.result ≡ seen turns = rw (brought-at c.args.message.now) at c.in_turn-found.ensures in
-    let new : c.in_turn-found.result.new ≡ length turns.new = ap (λ (x : Seen). x.new) gave in
-    let vector : c.in_turn-found.result.vector ≡ turns.vector = ap (λ (x : Seen). x.vector) gave in
-    let fits : turns.refusal ≡ none = sym (ap (λ (x : Seen). x.refusal) gave) ∙ ap verdict_refusal c.in_default-refusal.is in
-    let here : Arrived found c.args.at c.args.message.now = arrived found c.args.at c.args.message.now unrefused in
-    let few : c.args.s.held ≤ history_most = arrived-few found c.args.at c.args.message.now here in
-    let room : c.args.s.held + length turns.new ≤ history_most = omega (arith, few, c.if-held-found.false, new) in
-    rw (
-      c.finished-2.ensures,
-      c.taken-next.ensures,
-      c.append.ensures,
-      brought-at c.args.message.now,
-      new,
-      vector,
-      update-done found c.args.at c.args.message.now unrefused fits room,
-    )
+pub in_turn-requires : goal.in_turn-requires
+in_turn-requires c =
+    let here = goal.at.in_turn-requires c in
+    rw (writes here.After-first_records-records) (arrived-origins (server c.args.m.now) c.args.at c.args.message.now (arrived here.In_ok-arrival))
 
-pub overflow_sub-count : goal.overflow_sub-count
-overflow_sub-count c =
-    let found : Memory = memory c.args.s c.args.history.now c.args.image.now in
-    let unrefused : first (arrival_refusals found c.args.at c.args.message.now) ≡ none = sym c.arrival.ensures ∙ ap verdict_refusal c.in_default.is in
-    let here : Arrived found c.args.at c.args.message.now = arrived found c.args.at c.args.message.now unrefused in
-    let long : header_size ≤ length c.args.message.now = arrived-long found c.args.at c.args.message.now here in
-    omega (arith, long)
-
-pub slice_bounds-in_turn-count : goal.slice_bounds-in_turn-count
-slice_bounds-in_turn-count c =
-    let found : Memory = memory c.args.s c.args.history.now c.args.image.now in
-    let unrefused : first (arrival_refusals found c.args.at c.args.message.now) ≡ none = sym c.arrival.ensures ∙ ap verdict_refusal c.in_default.is in
-    let here : Arrived found c.args.at c.args.message.now = arrived found c.args.at c.args.message.now unrefused in
-    let long : header_size ≤ length c.args.message.now = arrived-long found c.args.at c.args.message.now here in
-    omega (arith, long)
-
-pub slice_bounds-in_turn-start : goal.slice_bounds-in_turn-start
-slice_bounds-in_turn-start c =
-    let found : Memory = memory c.args.s c.args.history.now c.args.image.now in
-    let unrefused : first (arrival_refusals found c.args.at c.args.message.now) ≡ none = sym c.arrival.ensures ∙ ap verdict_refusal c.in_default.is in
-    let here : Arrived found c.args.at c.args.message.now = arrived found c.args.at c.args.message.now unrefused in
-    let long : header_size ≤ length c.args.message.now = arrived-long found c.args.at c.args.message.now here in
-    omega (arith, long)
+pub returns-in_err-found-clause-effect : goal.returns-in_err-found-clause-effect
+returns-in_err-found-clause-effect c =
+    let here = goal.at.returns-in_err-found-clause-effect c in
+    let told : c.from_residual-in_err-found.result ≡ Err c.in_err-found.field-0.0 = search rules in
+    rw told
+    (sym
+    (update-stopped (server c.args.m.now) c.args.at c.args.message.now (arrived here.In_ok-arrival) _
+    (rw (writes here.After-first_records-records) at c.in_err-found.ensures)))
 
 pub overflow_sub-held : goal.overflow_sub-held
 overflow_sub-held c =
-    let found : Memory = memory c.args.s c.args.history.now c.args.image.now in
-    let unrefused : first (arrival_refusals found c.args.at c.args.message.now) ≡ none = sym c.arrival.ensures ∙ ap verdict_refusal c.in_default.is in
-    let here : Arrived found c.args.at c.args.message.now = arrived found c.args.at c.args.message.now unrefused in
-    let few : c.args.s.held ≤ history_most = arrived-few found c.args.at c.args.message.now here in
-    omega (arith, few)
+    let few = arrived-few (server c.args.m.now) c.args.at c.args.message.now (arrived (goal.at.overflow_sub-held c).In_ok-arrival) in
+    omega (arith, few, c.from-held.ensures)
 
-pub taken-next-requires : goal.taken-next-requires
-taken-next-requires c =
-    let found : Memory = memory c.args.s c.args.history.now c.args.image.now in
-    let turns : Taken = taken_from found c.args.message.now in
-    let gave : takes_of c.in_turn-found.result ≡ seen turns = rw (brought-at c.args.message.now) at c.in_turn-found.ensures in
-    let new : c.in_turn-found.result.new ≡ length turns.new = ap (λ (x : Seen). x.new) gave in
-    let unrefused : first (arrival_refusals found c.args.at c.args.message.now) ≡ none = sym c.arrival.ensures ∙ ap verdict_refusal c.in_default.is in
-    let here : Arrived found c.args.at c.args.message.now = arrived found c.args.at c.args.message.now unrefused in
-    let few : c.args.s.held ≤ history_most = arrived-few found c.args.at c.args.message.now here in
-    let room : c.args.s.held + length turns.new ≤ history_most = omega (arith, few, c.if-held-found.false, new) in
-    omega (arith, room, new)
+pub returns-then-held-found-clause-effect : goal.returns-then-held-found-clause-effect
+returns-then-held-found-clause-effect c =
+    let here = goal.at.returns-then-held-found-clause-effect c in
+    sym
+    (update-full (server c.args.m.now) c.args.at c.args.message.now (arrived here.In_ok-arrival) _ (gave here.In_ok-found)
+    (omega (arith, c.from-held.ensures)))
 
-pub slice_bounds-append-count : goal.slice_bounds-append-count
-slice_bounds-append-count c =
-    let found : Memory = memory c.args.s c.args.history.now c.args.image.now in
-    let unrefused : first (arrival_refusals found c.args.at c.args.message.now) ≡ none = sym c.arrival.ensures ∙ ap verdict_refusal c.in_default.is in
-    let here : Arrived found c.args.at c.args.message.now = arrived found c.args.at c.args.message.now unrefused in
-    let long : header_size ≤ length c.args.message.now = arrived-long found c.args.at c.args.message.now here in
-    omega (arith, long)
+pub append-requires : goal.append-requires
+append-requires c =
+    let here = goal.at.append-requires c in
+    let m = server c.args.m.now in
+    let ok = arrived here.In_ok-arrival in
+    rw (writes here.After-first_records-records, c.from-held.ensures) (
+      arrived-origins m c.args.at c.args.message.now ok,
+      took-fits m c.args.at c.args.message.now ok _ (gave here.In_ok-found) (omega (arith, c.from-held.ensures)),
+    )
 
-pub slice_bounds-append-start : goal.slice_bounds-append-start
-slice_bounds-append-start c =
-    let found : Memory = memory c.args.s c.args.history.now c.args.image.now in
-    let unrefused : first (arrival_refusals found c.args.at c.args.message.now) ≡ none = sym c.arrival.ensures ∙ ap verdict_refusal c.in_default.is in
-    let here : Arrived found c.args.at c.args.message.now = arrived found c.args.at c.args.message.now unrefused in
-    let long : header_size ≤ length c.args.message.now = arrived-long found c.args.at c.args.message.now here in
-    omega (arith, long)
+pub taken-m-requires : goal.taken-m-requires
+taken-m-requires c =
+    let here = goal.at.taken-m-requires c in
+    took-room (server c.args.m.now) c.args.at c.args.message.now (arrived here.In_ok-arrival) _ (gave here.In_ok-found)
+    (omega (arith, c.from-held.ensures))
+
+pub returns-clause-effect : goal.returns-clause-effect
+returns-clause-effect c =
+    let here = goal.at.returns-clause-effect c in
+    let m = server c.args.m.now in
+    let ok = arrived here.In_ok-arrival in
+    let room : c.in_ok-found.found.new ≤ history_most - m.state.held = omega (arith, c.from-held.ensures) in
+    elim c.if-found-ne0.branch [
+      | then-found-ne0 w ↦
+          rw (c.taken-m.ensures, w.m-is, w.append.ensures, writes here.After-first_records-records, c.from-held.ensures)
+          (sym (update-done m c.args.at c.args.message.now ok _ (gave here.In_ok-found) room))
+      | else-found-ne0 w ↦
+          rw (c.taken-m.ensures, w.m-is)
+          (sym (update_same m c.args.at c.args.message.now ok _ (gave here.In_ok-found) room w.if-found-ne0.false))
+    ]

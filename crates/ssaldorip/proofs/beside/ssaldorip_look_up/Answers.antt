@@ -1,40 +1,21 @@
--- `beside::ssaldorip_look_up` meets its contract: the first value of what was found, or its number. A place fits 32 bits.
+-- `beside::ssaldorip_look_up` meets its contract: what was found is answered by its first value, or its number.
 -- Assumes nothing.
-use Prim.Native.Nat.{ℕ}
-use mathlib.Core.Path.{◌≡◌, ap, sym, ◌∙◌}
-use native.Mathlib.Omega.{arith}
-use Rattle.rules.specs.Calls.{stands_at, look_up_refusal}
-use Rattle.rules.specs.Writes.{server}
-use Rattle.calls.specs.Place.{found_reply}
-use Rattle.calls.specs.declared.look_up.Found.{Found}
-use Rattle.ssaldorip.specs.Calls.{place_or_number}
-use Rattle.ssaldorip.proofs.Stateless.{value_or, place-or-number, place-within}
+use Rattle.std.proofs.Common.{◌∙◌, arith, Ok, Err, Some, None}
+use Rattle.ssaldorip.proofs.Stateless.{found_is, place-within}
 use Rattle.ssaldorip.proofs.beside.ssaldorip_look_up.Goals as goal
-
--- what was found is answered by its first value, or its number
-abbrev pub told : Found → ℕ
-told f = value_or (found_reply f)
 
 pub overflow_cast-result : goal.overflow_cast-result
 overflow_cast-result c =
-    omega (arith, place-within _ _ _ _ (sym (ap found_reply c.in-At.is) ∙ c.stands_at-found.ensures))
+    let told = rw (c.in-Ok-Some.is, c.in-Ok-Some.field-0-is) at c.stands_at.ensures in
+    omega (arith, place-within _ _ _ _ told)
 
-pub returns-in-At : goal.returns-in-At
-returns-in-At c =
-    let asked : ℕ = let i = c.args.image.now in let o = server c.args.origin in place_or_number (look_up_refusal i o) (stands_at i o c.args.number) in
-    let answer : told c.stands_at-found.result ≡ asked = ap value_or c.stands_at-found.ensures ∙ place-or-number _ _ in
-    sym (ap told c.in-At.is) ∙ answer
+pub returns-in-Ok-Some : goal.returns-in-Ok-Some
+returns-in-Ok-Some c =
+    found_is (Ok (Some _)) _ _ (rw (c.in-Ok-Some.is, c.in-Ok-Some.field-0-is) at c.stands_at.ensures)
 
-pub returns-in-NotThere : goal.returns-in-NotThere
-returns-in-NotThere c =
-    let asked : ℕ = let i = c.args.image.now in let o = server c.args.origin in place_or_number (look_up_refusal i o) (stands_at i o c.args.number) in
-    let answer : told c.stands_at-found.result ≡ asked = ap value_or c.stands_at-found.ensures ∙ place-or-number _ _ in
-    sym (ap told c.in-NotThere.is) ∙ answer
+pub returns-in-Ok-None : goal.returns-in-Ok-None
+returns-in-Ok-None c =
+    found_is (Ok None) _ _ (rw (c.in-Ok-None.is, c.in-Ok-None.field-0-is) at c.stands_at.ensures)
 
-pub returns-in-Refused : goal.returns-in-Refused
-returns-in-Refused c =
-    let asked : ℕ = let i = c.args.image.now in let o = server c.args.origin in place_or_number (look_up_refusal i o) (stands_at i o c.args.number) in
-    let answer : told c.stands_at-found.result ≡ asked = ap value_or c.stands_at-found.ensures ∙ place-or-number _ _ in
-    c.number.ensures
-    ∙ sym (ap told c.in-Refused.is)
-    ∙ answer
+pub returns-in-Err : goal.returns-in-Err
+returns-in-Err c = c.code.ensures ∙ found_is (Err _) _ _ (rw c.in-Err.is at c.stands_at.ensures)

@@ -16,9 +16,9 @@ returns c =
       n = sym (from_one 0 b) i;
       own = record { 0 = sym (from_one 1 b) i };
       up = ap (λ (x : ℕ). eqb x 1) (sym (from_one 2 b)) i;
-      held = c.u16_at.ensures i;
+      held = c.at.ensures i;
       vector = c.vector_at.ensures i;
-      cr = c.u64_at.ensures i;
-      rw = record { counts = c.table_at.ensures i };
-      nwrites = c.u16_at-2.ensures i;
+      cr = c.at-2.ensures i;
+      rw = record { counts = c.counts_at.ensures i };
+      nwrites = c.at-3.ensures i;
     }

@@ -1,39 +1,43 @@
--- `listing::put_records` meets its contract. The invariant: the lines of the records passed stand in the output, and the
--- next record stands at the place.
+-- `listing::put_records` meets its contract: one line more with each record that the reader gives.
 -- Assumes nothing.
 use Prim.Native.Nat.{◌≤◌, ◌<◌}
-use mathlib.Core.Path.{◌≡◌, ap, refl, ◌∙◌}
-use mathlib.Core.List.{[], flat_map}
-use native.Mathlib.Omega.{arith}
-use lib.ListN.{length, get_or}
+use mathlib.Core.List.{map-id, flat_map}
+use mathlib.Core.Path.{◌≡◌, ap, sym, ◌∙◌}
+use lib.ListN.{length}
+use Rattle.std.proofs.Common.{rules}
+use Rattle.std.proofs.lemmas.Iterator.Consumers.{YieldsList-at, YieldsList-turn, YieldsList-end}
 use Rattle.notes.specs.Index.{servers}
-use Rattle.notes.specs.Record.{decode}
-use Rattle.notes.specs.Message.{brought, read_at, place_after}
-use Rattle.notes.proofs.Reading.{read-record, place-record}
-use Rattle.text.specs.Text.{record_line}
-use Rattle.text.proofs.Texts.{then, same_text, no_text, each_more}
+use Rattle.notes.specs.Message.{left_from, unread}
+use Rattle.notes.proofs.Records.{length-records}
+use Rattle.notes.proofs.Reading.{reader-yields}
+use Rattle.text.specs.Text.{record_line, line_room}
+use Rattle.text.proofs.Texts.{added-as, added-none, added-more, room-left}
 use Rattle.text.proofs.Lines.{record-room}
-use borrow.Author.Rules.{rules}
 use Rattle.text.proofs.listing.put_records.Goals as goal
 
-pub loop-k-init : goal.loop-k-init
+pub loop-record-init : goal.loop-record-init
 unfolding flat_map
-loop-k-init c =
-    (search rules, no_text c.args.out.now c.args.at, search rules, refl)
+loop-record-init c =
+    added-none c.args.page.now
 
-pub loop-k-preserved : goal.loop-k-preserved
-loop-k-preserved c =
+pub put_record-requires : goal.put_record-requires
+put_record-requires c =
+    let r = c.args.records in
+    let n = c.args.n in
+    let few : n ≤ servers = search rules in
+    let all = YieldsList-at c.into_iter-record-iterator.ensures.into_iter_gives (reader-yields r) in
+    let turn = YieldsList-turn all c.loop-record.yielded _ c.loop-record.yielded_by _ _ c.in-Some.record c.in-Some.is c.next.ensures.steps in
+    let left : length c.loop-record.yielded < left_from r.message.now r.at = rw length-records at turn.0 in
+    (few, room-left (record_line n) line_room (record-room n few) c.loop-record.yielded (left_from r.message.now r.at) c.requires.1 left c.loop-record.invariant)
+
+pub loop-record-preserved : goal.loop-record-preserved
+loop-record-preserved c =
     let few : c.args.n ≤ servers = search rules in
-    let all : c.args.count ≡ length (brought c.args.m.now) = search rules in
-    let left : c.loop-k.k < length (brought c.args.m.now) = omega (arith, all, c.loop-k-test.true) in
-    let this : c.record_from-read.result.write ≡ get_or (brought c.args.m.now) c.loop-k.k (decode []) = let m = c.args.m.now in
-    ap (λ x. x.write) (c.record_from-read.ensures ∙ ap (read_at m) c.loop-k.invariant.3 ∙ read-record m c.loop-k.k left) in
-    let a = c.args in
-    let l = c.loop-k in
-    let m = a.m.now in
-    let here = left in (
-      search rules,
-      same_text (rw this (each_more (record_line a.n) (brought m) l.k (decode []) here)) (then l.invariant.1 c.put_record-end.ensures),
-      omega (arith, l.invariant.2, record-room a.n few c.record_from-read.result.write, c.put_record-end.ensures.ends),
-      c.place_after-place.ensures ∙ ap (place_after m) l.invariant.3 ∙ place-record m l.k here,
-    )
+    added-more (record_line c.args.n) line_room (record-room c.args.n few) c.loop-record.yielded c.in-Some.record c.loop-record.invariant c.put_record.ensures
+
+pub returns : goal.returns
+returns c =
+    let all = YieldsList-at c.into_iter-record-iterator.ensures.into_iter_gives (reader-yields c.args.records) in
+    let end = YieldsList-end all c.loop-record.yielded _ c.loop-record.yielded_by _ _ c.in-None.is c.next.ensures.steps in
+    let same : c.loop-record.yielded ≡ unread c.args.records = sym (map-id c.loop-record.yielded) ∙ end.0 in
+    added-as (ap (flat_map (record_line c.args.n)) same) c.loop-record.invariant

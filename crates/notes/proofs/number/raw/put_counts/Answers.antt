@@ -1,21 +1,16 @@
 -- `number::raw::put_counts` meets its contract. The invariant: the bytes of the numbers passed are stored.
 -- Assumes nothing.
-use mathlib.Core.Path.{refl, ◌∙◌}
+use Rattle.std.proofs.Common.{◌∙◌, refl, rules}
 use mathlib.Core.List.{flat_map}
 use Rattle.notes.proofs.Vectors.{counts-stored}
-use borrow.Author.Rules.{rules}
 use Rattle.notes.proofs.number.raw.put_counts.Goals as goal
 
 pub loop-i-init : goal.loop-i-init
 unfolding flat_map
-loop-i-init c =
-    (search rules, refl, refl)
+loop-i-init c = refl
 
 pub loop-i-preserved : goal.loop-i-preserved
 loop-i-preserved c =
     let l = c.loop-i in
-    let a = c.args in (
-      search rules,
-      c.put_u16.ensures ∙ rw l.invariant.1 (counts-stored a.xs.now l.i (search rules) a.out.now a.at),
-      search rules,
-    )
+    let a = c.args in
+    c.put.ensures ∙ rw l.invariant (counts-stored a.xs.now l.i (search rules) a.out.now a.at)

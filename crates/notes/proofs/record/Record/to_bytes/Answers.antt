@@ -1,15 +1,13 @@
 -- `Record::to_bytes` meets its contract: field by field.
 -- Assumes nothing.
-use mathlib.Core.Path.{◌≡◌, ◌∙◌}
-use lib.ListN.{length, replicate}
+use Rattle.std.proofs.Common.{◌≡◌, ◌∙◌, length, replicate, rules}
 use Rattle.notes.proofs.Records.{encode-stored, encode-filled}
-use borrow.Author.Rules.{rules}
 use Rattle.notes.proofs.record.Record.to_bytes.Goals as goal
 
 pub returns : goal.returns
 returns c =
-    let eight : length c.args.self.stamp.counts ≡ 8 = search rules in
     let self = c.args.self in
+    let eight : length self.stamp.counts ≡ 8 = search rules in
     c.put_vector.ensures
-    ∙ rw (c.put_u32-2.ensures, c.put_u32.ensures, c.put_u16.ensures, c.put_u8-2.ensures, c.put_u8.ensures)
-    (encode-stored self (replicate 28 0) ∙ encode-filled self eight)
+    ∙ rw (c.put-5.ensures, c.put-4.ensures, c.put-3.ensures, c.put-2.ensures, c.put.ensures)
+    (encode-stored self (replicate 28 0) (search rules) (search rules) ∙ encode-filled self eight)

@@ -1,24 +1,15 @@
--- `Vector::is_behind` meets its contract. The invariant: the flag is the test over the positions passed.
+-- `Vector::is_behind` meets its contract: the fold is the test over the pairs.
 -- Assumes nothing.
-use mathlib.Core.Path.{sym}
-use Rattle.notes.specs.Lists.{any}
-use Rattle.notes.proofs.Vectors.{behind_more, behind-all}
-use borrow.Author.Rules.{rules}
+use Rattle.std.proofs.Common.{◌∙◌, ◌||◌, false, ltb, rules, tests}
+use Rattle.std.proofs.lemmas.Iterator.{YieldsList-from_slice, YieldsList-from_zip}
+use Rattle.std.proofs.lemmas.Iterator.Consumers.{fold_from_yields_List}
+use Rattle.notes.proofs.Vectors.{behind-folded}
 use Rattle.notes.proofs.vector.Vector.is_behind.Goals as goal
-
-pub loop-i-init : goal.loop-i-init
-unfolding any
-loop-i-init c =
-    search rules
-
-pub loop-i-preserved : goal.loop-i-preserved
-loop-i-preserved c =
-    let l = c.loop-i in
-    let a = c.args in
-    (search rules, rw l.invariant.1 (sym (behind_more a.self a.other (search rules) (search rules) l.i (search rules))))
 
 pub returns : goal.returns
 returns c =
-    let l = c.loop-i in
     let a = c.args in
-    rw l.invariant.1 (behind-all a.self a.other (search rules) (search rules) l.i c.loop-i-test.false)
+    fold_from_yields_List _ (λ below p. below || ltb p.0 p.1) false _ c.fold.ensures.ran
+    (YieldsList-from_zip (YieldsList-from_slice a.self.counts (cc)) (YieldsList-from_slice a.other.counts (cc)))
+    (λ b x r q k. search (rules, tests))
+    ∙ behind-folded a.self a.other

@@ -1,17 +1,13 @@
 -- `Vector::raised` meets its contract: past the eight positions a store changes nothing.
 -- Assumes nothing.
-use mathlib.Core.Path.{◌≡◌, ap, sym}
-use native.Mathlib.Omega.{arith}
-use lib.ListN.{length}
-use lib.Seq.{set_out}
+use Rattle.std.proofs.Common.{◌≡◌, ap, sym, length, arith, rules}
+use Rattle.std.proofs.Math.Seq.{set_out}
 use Rattle.notes.specs.Vector.{vector, raised}
-use borrow.Author.Rules.{rules}
 use Rattle.notes.proofs.vector.Vector.raised.Goals as goal
 
 pub returns-then-i-lt-LEN : goal.returns-then-i-lt-LEN
 unfolding raised
-returns-then-i-lt-LEN c =
-    rw c.greater.ensures
+returns-then-i-lt-LEN c = rw (c.max.ensures, c.from-i.ensures)
 
 pub returns-else-i-lt-LEN : goal.returns-else-i-lt-LEN
 unfolding raised

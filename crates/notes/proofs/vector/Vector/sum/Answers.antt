@@ -1,11 +1,14 @@
--- `Vector::sum` meets its contract. The invariant: the total is the sum of the positions passed, each below 65,536.
+-- `Vector::sum` meets its contract: eight counts, each below 65,536, have a sum of four bytes.
 -- Assumes nothing.
-use Rattle.notes.proofs.Vectors.{sum-all}
-use borrow.Author.Rules.{rules}
+use Rattle.std.proofs.Common.{◌≡◌, ◌∙◌, sum, rules}
+use Rattle.std.proofs.iter.runs.Sources.{sums}
+use Rattle.notes.proofs.Vectors.{sum-folded}
 use Rattle.notes.proofs.vector.Vector.sum.Goals as goal
+
+pub sum-requires-clause-fits : goal.sum-requires-clause-fits
+sum-requires-clause-fits c = search (rules, sums)
 
 pub returns : goal.returns
 returns c =
-    let l = c.loop-i in
-    let a = c.args in
-    rw l.invariant.1 (sum-all a.self (search rules) l.i c.loop-i-test.false)
+    let total : c.sum.result ≡ sum c.args.self.counts = search rules in
+    total ∙ sum-folded c.args.self

@@ -1,22 +1,16 @@
--- `Vector::zero_from` meets its contract. The invariant: the flag is the test over the positions passed from n on.
+-- `Vector::zero_from` meets its contract: the fold is the test over the positions from n on.
 -- Assumes nothing.
-use mathlib.Core.Path.{sym}
-use Rattle.notes.proofs.Vectors.{zero-none, zero_more, zero-all}
-use borrow.Author.Rules.{rules}
+use Rattle.std.proofs.Common.{◌∙◌, ◌&&◌, true, eqb, rules, tests}
+use Rattle.std.proofs.lemmas.Iterator.{YieldsList-from_slice}
+use Rattle.std.proofs.lemmas.Iterator.Adapters.{YieldsList-from_skip}
+use Rattle.std.proofs.lemmas.Iterator.Consumers.{fold_from_yields_List}
+use Rattle.notes.proofs.Vectors.{zero-folded}
 use Rattle.notes.proofs.vector.Vector.zero_from.Goals as goal
-
-pub loop-i-init : goal.loop-i-init
-loop-i-init c =
-    (search rules, sym (zero-none c.args.self (search rules) c.args.n))
-
-pub loop-i-preserved : goal.loop-i-preserved
-loop-i-preserved c =
-    let l = c.loop-i in
-    let a = c.args in
-    (search rules, rw l.invariant.1 (sym (zero_more a.self (search rules) a.n l.i (search rules) (search rules))))
 
 pub returns : goal.returns
 returns c =
-    let l = c.loop-i in
     let a = c.args in
-    rw l.invariant.1 (zero-all a.self (search rules) a.n l.i c.loop-i-test.false)
+    fold_from_yields_List _ (λ zero x. zero && eqb x 0) true _ c.fold.ensures.ran
+    (YieldsList-from_skip a.n (YieldsList-from_slice a.self.counts (cc)) (cc))
+    (λ b x r q k. search (rules, tests))
+    ∙ zero-folded a.n a.self

@@ -1,2 +1,0 @@
--- The files of definitions.
-pub mod Counts
