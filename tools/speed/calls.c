@@ -16,8 +16,9 @@ static uint8_t zero[16], reply[21], session[33], asked[16];
 
 static void put(uint8_t *at, unsigned number) { at[0] = number % 256; at[1] = number / 256; }
 
-/* The records of `count` writes, the first `turns` of all eight servers in turn, the others of the seven others in turn. */
-static void fill(uint8_t *b, unsigned count, unsigned turns) {
+/* The records of `count` writes, the first `turns` of all eight servers in turn, the others of the seven others in turn; of many
+ * cells or of one. */
+static void fill(uint8_t *b, unsigned count, unsigned turns, int one_cell) {
     unsigned v[8] = {0};
     for (unsigned k = 0; k < count; k++) {
         uint8_t *r = b + RECORD * k;
@@ -25,7 +26,7 @@ static void fill(uint8_t *b, unsigned count, unsigned turns) {
         v[o]++;
         r[0] = o;
         r[1] = k % 64;
-        put(r + 2, k * 37 % 1024);
+        put(r + 2, one_cell ? 300 : k * 37 % 1024);
         put(r + 4, k);
         put(r + 8, k);
         for (unsigned i = 0; i < 8; i++) put(r + 12 + 2 * i, v[i]);
@@ -39,7 +40,7 @@ int main(int argc, char **argv) {
     int is_new = !strcmp(which, "update_new");
     unsigned turns = is_new ? held : 256;
     static uint8_t all[7168];
-    fill(all, 256, turns);
+    fill(all, 256, turns, !strcmp(which, "read_one_cell"));
     memcpy(history, all, RECORD * held);
     unsigned v[8] = {0};
     for (unsigned k = 0; k < held; k++) {
@@ -69,7 +70,7 @@ int main(int argc, char **argv) {
         uint32_t said = 0;
         if (!strcmp(which, "judge")) said = ssaldorip_judge(SERVER);
         else if (!strncmp(which, "update", 6)) said = ssaldorip_update(SERVER, OWN, message, sizeof message);
-        else if (!strcmp(which, "read")) said = ssaldorip_read(SERVER, OWN, 5, 300, zero, 16, reply, 21);
+        else if (!strncmp(which, "read", 4)) said = ssaldorip_read(SERVER, OWN, 5, 300, zero, 16, reply, 21);
         else if (!strcmp(which, "write")) said = ssaldorip_write(SERVER, OWN, 5, 300, 7, 900, zero, 16, reply, 16);
         else if (!strcmp(which, "recover")) said = ssaldorip_recover(SERVER, OWN);
         else if (!strcmp(which, "status")) said = ssaldorip_status(SERVER, reply, 2);

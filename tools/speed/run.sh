@@ -9,7 +9,7 @@ trap 'rm -rf "$work"' EXIT
 gcc -O2 -static -no-pie -I "$include" "$here/calls.c" "$archive" -o "$work/calls" || exit 1
 count() { # CALL HELD KEPT TIMES
     f=$1
-    case $f in update*) f=update ;; esac
+    case $f in update*) f=update ;; read*) f=read ;; esac
     valgrind --tool=callgrind --callgrind-out-file=/dev/null --toggle-collect=ssaldorip_$f "$work/calls" "$1" "$2" "$3" "$4" 2>"$work/err" || { cat "$work/err" >&2; return 1; }
     awk '/Collected/ { print $4 }' "$work/err"
 }
@@ -25,6 +25,7 @@ line "update of 256, none new, checkpoint all" update 256 256
 line "update of 256, 224 new (32 held, nothing)" update_new 32 0
 line "read, 256 held, checkpoint nothing" read 256 0
 line "read, 256 held, checkpoint all" read 256 256
+line "read, 256 held, all in one cell" read_one_cell 256 256
 line "write, 255 held, checkpoint nothing" write 255 0
 line "write, 255 held, checkpoint all" write 255 255
 line "recover of 256 (checkpoint all)" recover 256 256

@@ -1,5 +1,5 @@
 // A server in buffers of its own, and what examples need of one that is not told: writes one after the other, and messages.
-ghost use Rattle.std.specs.Prelude.{◌≡◌};
+ghost use Rattle.std.specs.Prelude.{◌≡◌, ◌≤◌, length, IfOk};
 
 use calls::{message, start};
 use memory::image::Image;
@@ -80,7 +80,9 @@ impl Server {
     }
 
     // The server's own message, at the start of out.
-    pub(crate) fn message<'a>(&self, out: &'a mut [u8]) -> Result<&'a [u8], Refusal> {
+    pub(crate) fn message<'a>(&self, out: &'a mut [u8]) -> Result<&'a [u8], Refusal>
+        ensures { IfOk result (λ message. length message.now ≤ length out.old) }
+    {
         let len = message::message(self.lent(), out)?;
         Ok(&out[..len])
     }
@@ -103,7 +105,9 @@ pub(crate) fn written<'a>(
     value: u32,
     count: usize,
     out: &'a mut [u8],
-) -> Result<&'a [u8], Refusal> {
+) -> Result<&'a [u8], Refusal>
+    ensures { IfOk result (λ message. length message.now ≤ length out.old) }
+{
     let mut server = Server::none();
     server.start(n, own)?;
     server.writes(value, count)?;

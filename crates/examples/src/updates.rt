@@ -1,4 +1,6 @@
 // Examples 2, 3 and 9: updates from other servers.
+ghost use Rattle.std.specs.Prelude.{◌≤◌, length, IfOk};
+
 use crate::act::{Stage, pair};
 use crate::quiet;
 use notes::index::{PhoneId, ServerId};
@@ -8,18 +10,18 @@ use notes::record::Record;
 use rules::answer::Refusal;
 
 // Server 1 writes; its message.
-fn two_first<'a>(stage: &mut Stage, out: &'a mut [u8]) -> Result<&'a [u8], Refusal> {
+fn two_first<'a>(stage: &mut Stage, out: &'a mut [u8]) -> Result<&'a [u8], Refusal>
+    ensures { IfOk result (λ message. length message.now ≤ length out.old) }
+{
     stage.begin(b"2 start, N and own number", 3, 1);
     stage.write(b"2 server 1: phone 5 writes", 7);
     stage.server.message(out)
 }
 
 // Server 0 takes it, writes, is cut and recovers; its message.
-fn two_second<'a>(
-    stage: &mut Stage,
-    from_1: &[u8],
-    out: &'a mut [u8],
-) -> Result<&'a [u8], Refusal> {
+fn two_second<'a>(stage: &mut Stage, from_1: &[u8], out: &'a mut [u8]) -> Result<&'a [u8], Refusal>
+    ensures { IfOk result (λ message. length message.now ≤ length out.old) }
+{
     stage.begin(b"2 start, N and own number", 3, 0);
     stage.update(b"2 server 0 takes the update of server", 1, from_1);
     stage.write(b"2 server 0: phone 5 writes", 8);
@@ -68,7 +70,9 @@ pub(crate) fn three(stage: &mut Stage) -> Result<(), Refusal> {
 }
 
 // The message of write number 2 of server 1 alone.
-fn nine_message(out: &mut [u8]) -> Result<&[u8], Refusal> {
+fn nine_message(out: &mut [u8]) -> Result<&[u8], Refusal>
+    ensures { IfOk result (λ message. length message.now ≤ length out.old) }
+{
     let record = Record {
         origin: ServerId(1),
         phone: PhoneId(5),

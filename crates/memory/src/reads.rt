@@ -15,10 +15,14 @@ pub(crate) fn reads_ok(s: &State) -> bool
     ok
 }
 
-// The numbers of a state are zero but for N and its own number.
+// The numbers of a state are zero but for N and its own number. No exit inside, as above.
 pub(crate) fn is_zero(s: &State) -> bool
     ensures { result ≡ is_zero s.now }
 {
-    let no_reads = s.rw.counts.iter().all(|count| *count == 0);
+    let no_reads = s
+        .rw
+        .counts
+        .iter()
+        .fold(true, |zero, count| zero & (*count == 0));
     s.held == 0 && s.vector.zero_from(0) && s.cr == 0 && no_reads && s.nwrites == 0
 }

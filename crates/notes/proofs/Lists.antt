@@ -91,12 +91,24 @@ module _ {A : Type 0} where
     every_append [] b = refl
     every_append (x ∷ a) b = rw (every_append a b, and_assoc)
 
+    pub any_append : (a b : List A) → any p (a ++ b) ≡ (any p a || any p b)
+    unfolding any
+    any_append [] b = refl
+    any_append (x ∷ a) b = rw (any_append a b, or_assoc)
+
     pub every_more :
         (l : List A) (i : ℕ) (d : A)
         → i < length l
         → every p (take (i + 1) l) ≡ (every p (take i l) && p (get_or l i d))
     unfolding every
     every_more l i d h = rw (take_more l i d h, every_append, and-true)
+
+    pub any-more :
+        (l : List A) (i : ℕ) (d : A)
+        → i < length l
+        → any p (take (i + 1) l) ≡ (any p (take i l) || p (get_or l i d))
+    unfolding any
+    any-more l i d h = rw (take_more l i d h, any_append, or-false)
 
     -- ---- as std has them: `all`, `any`, and folds that do not stop
     pub every-all : (l : List A) → list_all p l ≡ every p l

@@ -1,7 +1,7 @@
 -- Laws of records: a record and its bytes, both ways, and records one behind the other.
 -- Assumes nothing.
 use Prim.Native.Nat.{ℕ, zero, suc, ◌+◌, ◌*◌, ◌/◌, ◌%◌, ◌^◌, ◌<◌, ◌≤◌}
-use mathlib.Core.Bool.{Bool, true, false, ◌&&◌, ◌||◌, not, and-true, and-false}
+use mathlib.Core.Bool.{Bool, true, false, ◌&&◌, not, and-true, and-false}
 use mathlib.Core.List.{List, [], ◌∷◌, ◌++◌, map, append-nil}
 use mathlib.Core.Path.{◌≡◌, refl, ap, sym, ◌∙◌}
 use native.Mathlib.Omega.{arith}
@@ -9,20 +9,16 @@ use borrow.Author.Tests.{ltb-true, ltb-false, lt-ltb, le-ltb, eq-eqb, ne_eqb}
 use lib.Dec.{ltb, leb, eqb}
 use lib.ListN.{length, get_or, take, drop, length-drop, length-map, get_or-map, replicate, length-replicate}
 use lib.Seq.{get_or-drop, take-length, sets, sets-eq}
-use Rattle.notes.specs.Lists.{every, above}
+use Rattle.notes.specs.Lists.{every}
 use Rattle.notes.specs.Index.{servers, phones}
 use Rattle.notes.specs.Bytes.{field, from_bytes, to_bytes, pieces}
 use Rattle.notes.specs.Vector.{behind, vector_bytes}
-use Rattle.notes.specs.Record.{record_size, ranked, cells, in_range, well_formed, stamp_at, number, origin_field, phone_field, cell_field, decode, encode, records, record_bytes}
+use Rattle.notes.specs.Record.{record_size, cells, in_range, well_formed, stamp_at, number, origin_field, phone_field, cell_field, decode, encode, records, record_bytes}
 use Rattle.notes.specs.Forms.{limits_of}
 use Rattle.notes.specs.declared.record.Record.{Record}
-use Rattle.notes.specs.declared.record.Rank.{Rank}
-use Rattle.notes.specs.contracts.record.RankPartialOrd.TheImpl as order
-use Rattle.std.specs.Prelude.{Some}
 use Rattle.std.specs.List.{list_all}
 use Rattle.std.proofs.lemmas.List.Folds.{list_all-map}
-use Rattle.std.specs.Ordering.{partial_lt, partial_ordering_then, nat_cmp}
-use Rattle.notes.proofs.Lists.{both, every-all, less-first, less-last, parts_join, sets-front}
+use Rattle.notes.proofs.Lists.{both, every-all, parts_join, sets-front}
 use Rattle.notes.proofs.Numbers.{AllBelow, below-take, below-drop, from-below, one_byte, from-to, from-two, from-split, from_one, from-agree, part-back, byte-join}
 use Rattle.notes.proofs.Pieces.{Each, each-also, length-pieces, piece-at, pieces-join, pieces-split, length-flat_map}
 use Rattle.notes.proofs.Vectors.{vector-bytes, vector-from, length-vector_bytes, length-vector_from, counts-below, count-from, vector-agree, zeros-at, stamp-limits}
@@ -201,17 +197,6 @@ well-formed-is n r l = rw (stamp-limits n r.stamp l) (swap (in_range n r) (leb 1
     swap false b c = refl
     swap true true c = sym (and-true c)
     swap true false c = sym (and-false c)
-
--- ---- the derived order of ranks is that of their numbers
-pub less-above : (a b : Rank) → partial_lt order.partial_cmp-value.it b a ≡ above (ranked a) (ranked b)
-unfolding above
-less-above a b =
-    let numbers = Some (nat_cmp b.number a.number) in
-    let origins = partial_ordering_then (Some (nat_cmp b.origin.0 a.origin.0)) numbers in
-    less-first a.sum b.sum origins
-    ∙ ap (λ t. ltb b.sum a.sum || eqb a.sum b.sum && t)
-    (less-first a.origin.0 b.origin.0 numbers
-    ∙ ap (λ t. ltb b.origin.0 a.origin.0 || eqb a.origin.0 b.origin.0 && t) (less-last a.number b.number))
 
 -- ---- records in a row, tested one by one
 

@@ -6,7 +6,6 @@ use Rattle.notes.specs.Lists.{every, above}
 use Rattle.notes.specs.Bytes.{Field, field, to_bytes, pieces}
 use Rattle.notes.specs.Index.{phones}
 use Rattle.notes.specs.Vector.{at, sum, zero_from, vector_from, vector_bytes, Vector}
-use Rattle.notes.specs.declared.record.Rank.{Rank}
 pub use Rattle.notes.specs.declared.record.Record.{Record}
 
 -- the bytes of a record, and where its numbers stand
@@ -80,9 +79,6 @@ well_formed n r = in_range n r && leb 1 (number r) && stamp_ok n r.stamp
 -- a wins over b: the greater sum of T, then the higher origin, then the higher number
 abbrev pub rank : Record → List ℕ
 rank r = sum r.stamp ∷ r.origin.0 ∷ number r ∷ []
-
-abbrev pub ranked : Rank → List ℕ
-ranked k = k.sum ∷ k.origin.0 ∷ k.number ∷ []
 
 unfoldable pub beats : Record → Record → Bool
 beats a b = above (rank a) (rank b)

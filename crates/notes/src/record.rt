@@ -1,6 +1,6 @@
 // Records of 28 bytes: one write each.
 ghost use Rattle.std.specs.Prelude.{◌≡◌};
-ghost use Rattle.notes.specs.Record.{decode, encode, number as number_of, in_range, well_formed, rank as rank_of, ranked, beats as beats_by};
+ghost use Rattle.notes.specs.Record.{decode, encode, number as number_of, in_range, well_formed, beats as beats_by};
 
 use crate::index::{PhoneId, ServerId};
 use crate::number::raw::Number;
@@ -89,29 +89,20 @@ impl Record {
         self.in_range(n) && !raw::limits(n).is_behind(self.stamp) && 1 <= self.number()
     }
 
-    // What decides who wins a cell: the greater sum of T, then the higher origin, then the higher number.
-    fn rank(self) -> Rank
-        ensures { ranked result ≡ rank_of self }
-    {
-        Rank {
-            sum: self.stamp.sum(),
-            origin: self.origin,
-            number: self.number(),
-        }
-    }
-
-    // Whether this record wins a cell over the other.
+    // Whether this record wins a cell over the other: by the greater sum of T, then the higher origin, then the higher number. Each is
+    // looked at where those before it are equal: as a struct of the three with a derived order, for which all are worked out first, a read
+    // of a cell that has 256 notes takes 1.35 times the instructions (docs/SPEED.md).
     pub fn beats(self, other: Record) -> bool
         ensures { result ≡ beats_by self other }
     {
-        other.rank() < self.rank()
+        let mine = self.stamp.sum();
+        let theirs = other.stamp.sum();
+        if mine != theirs {
+            return theirs < mine;
+        }
+        if self.origin != other.origin {
+            return other.origin < self.origin;
+        }
+        other.number() < self.number()
     }
-}
-
-// A record's rank among those of its cell: its fields decide in this order.
-#[derive(Clone, Copy, PartialEq, Eq, PartialOrd, Ord)]
-struct Rank {
-    sum: u32,
-    origin: ServerId,
-    number: u16,
 }

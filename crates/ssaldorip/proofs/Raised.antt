@@ -11,7 +11,7 @@ use lib.ListN.{length, get_or, drop, length-append}
 use lib.Seq.{sets}
 use Rattle.std.specs.Prelude.{Result, Ok, Err}
 use Rattle.notes.specs.Bytes.{field, to_bytes}
-use Rattle.notes.specs.Session.{choice_number, choose, read_carries}
+use Rattle.notes.specs.Session.{choice_number, choose, new_session, read_carries}
 use Rattle.notes.specs.Vector.{vector_from, vector_bytes}
 use Rattle.notes.specs.declared.message.Refusal.{Refusal as Told}
 use Rattle.notes.specs.declared.session.Choice.{Choice}
@@ -26,7 +26,7 @@ use Rattle.rules.specs.declared.answer.Refusal.{Refusal}
 use Rattle.rules.specs.declared.answer.Refusal.TheVariants.{TooShort}
 use Rattle.rules.proofs.Refusals.{same-number}
 use Rattle.ssaldorip.specs.Calls.{vector_size, left, onto, put}
-use Rattle.ssaldorip.specs.Sessions.{writes_at, choice_field, session_size, session_in, session_bytes, if_chosen, session_raise, session_asks}
+use Rattle.ssaldorip.specs.Sessions.{writes_at, choice_field, session_size, session_in, session_bytes, if_chosen, session_start, session_raise, session_asks}
 use Rattle.ssaldorip.specs.Forms.{vector_told, of_choice, session_told}
 use Rattle.ssaldorip.proofs.Told.{if_told}
 
@@ -64,6 +64,16 @@ module _ (s : Session) (eight : Eight s) where
 
 pub in-eight : (c : Choice) (b : List ℕ) → Eight (session_in c b)
 in-eight c b = record { reads = length-vector_from b; writes = length-vector_from (drop writes_at b) }
+
+-- ---- a new one
+module _ (k : ℕ) (s : List ℕ) where
+  pub start-short : length s < session_size → session_start k s ≡ left 9 s
+  unfolding session_start
+  start-short h = rw (lt-ltb (length s) session_size h)
+
+  pub start_is : session_size ≤ length s → (x : Result Choice Told) → choose k ≡ x → session_start k s ≡ if_chosen x s (λ c. left 0 (onto (session_bytes (new_session c)) s))
+  unfolding session_start
+  start_is h x e = rw (le-ltb (length s) session_size h, e)
 
 -- ---- what is lent to each call: 9 for its bytes, then 1
 pub chosen_told : (s : List ℕ) → session_size ≤ length s → session_told s ≡ of_choice (choose (get_or s 32 0)) s

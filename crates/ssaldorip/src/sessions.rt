@@ -1,5 +1,6 @@
 // The calls on a phone's session in its bytes: they need no server.
 ghost use Rattle.std.specs.Prelude.{◌≡◌, ◌≤◌, length};
+ghost use denote.Ref.{MutBor};
 ghost use Rattle.notes.specs.Session.{after_read, after_write};
 ghost use Rattle.notes.specs.declared.session.Session.{Session};
 ghost use Rattle.notes.specs.declared.vector.Vector.{Vector};
@@ -66,21 +67,22 @@ pub extern "C" fn ssaldorip_session_start(choice: u8, session: &mut [u8]) -> u32
     code(started(choice, session))
 }
 
-// A session in its bytes, after a reply's vector.
+// A session in its bytes, which a reply's vector raises in place.
 #[tactic(auto, using(crate::proofs::Raised::raise_told))]
-fn raised<F: Fn(Session, Vector) -> Session>(
+fn raised<F: Fn(&mut Session, Vector)>(
     session: &mut [u8],
     reply_vector: &[u8],
-    after: F,
+    raise: F,
 ) -> Result<(), Refusal>
-    requires { F.IsAlwaysCallable after }
+    requires { F.IsAlwaysCallable raise }
     ensures { (f : Session → Vector → Session)
-        → ((s : Session) (v : Vector) (r : Session) → F.post after s v r → r ≡ f s v)
+        → ((s t : MutBor Session) (v : Vector) (u : Unit) → F.post raise s v u t → t.now ≡ f s.now v)
         → left (verdict_reply result).number session.new ≡ session_raise f session.old reply_vector.now }
 {
     let reply = vector_in(reply_vector)?;
-    let s = session_of(session)?;
-    put_session(session, after(s, reply));
+    let mut s = session_of(session)?;
+    raise(&mut s, reply);
+    put_session(session, s);
     Ok(())
 }
 
@@ -89,7 +91,7 @@ fn raised<F: Fn(Session, Vector) -> Session>(
 pub extern "C" fn ssaldorip_session_raise(session: &mut [u8], reply_vector: &[u8]) -> u32
     ensures { left result session.new ≡ session_raise after_read session.old reply_vector.now }
 {
-    code(raised(session, reply_vector, Session::after_read))
+    code(raised(session, reply_vector, Session::raise))
 }
 
 // The same by a write's reply.
@@ -97,7 +99,7 @@ pub extern "C" fn ssaldorip_session_raise(session: &mut [u8], reply_vector: &[u8
 pub extern "C" fn ssaldorip_session_raise_written(session: &mut [u8], reply_vector: &[u8]) -> u32
     ensures { left result session.new ≡ session_raise after_write session.old reply_vector.now }
 {
-    code(raised(session, reply_vector, Session::after_write))
+    code(raised(session, reply_vector, Session::raise_written))
 }
 
 // What a session's next read carries, in an output.

@@ -1,6 +1,6 @@
 -- Laws of numbers in decimal.
 -- Assumes nothing.
-use Prim.Native.Nat.{ℕ, zero, suc, ◌/◌, ◌%◌, ◌^◌, ◌<◌, ◌≤◌}
+use Prim.Native.Nat.{ℕ, zero, suc, ◌+◌, ◌/◌, ◌%◌, ◌^◌, ◌<◌, ◌≤◌}
 use mathlib.Core.Bool.{Bool, true, false, cond}
 use mathlib.Core.List.{List, [], ◌∷◌, ◌++◌}
 use mathlib.Core.Path.{◌≡◌, ap, sym, ◌∙◌}
@@ -8,8 +8,6 @@ use native.Mathlib.Omega.{arith}
 use borrow.Author.Tests.{lt-ltb, le-ltb}
 use lib.Dec.{ltb}
 use lib.ListN.{length, length-append}
-use Rattle.std.specs.Fmt.{decimal as written}
-use Rattle.std.proofs.lemmas.Fmt.{decimal_by_steps}
 use Rattle.text.specs.Text.{digit, decimal_in, decimal, spaced}
 
 -- further digits change nothing
@@ -35,22 +33,20 @@ few (suc k) n = go (few k (n / 10)) (ltb n 10)
     go h true = omega arith
     go h false = rw length-append (omega arith)
 
-decimal-one : (n : ℕ) → n < 10 → decimal n ≡ digit n ∷ []
+pub decimal-one : (n : ℕ) → n < 10 → decimal n ≡ digit n ∷ []
 decimal-one n h = one 8 n h
 
-decimal-more : (n : ℕ) → 10 ≤ n → n < 2 ^ 32 → decimal n ≡ decimal (n / 10) ++ (digit (n % 10) ∷ [])
+pub decimal-more : (n : ℕ) → 10 ≤ n → n < 2 ^ 32 → decimal n ≡ decimal (n / 10) ++ (digit (n % 10) ∷ [])
 decimal-more n h k = more 8 n h ∙ ap (λ (l : List ℕ). l ++ (digit (n % 10) ∷ [])) (sym (steady 8 (n / 10) (omega arith)))
-
--- what is written of a number of 32 bits
-pub decimal_written : (n : ℕ) → n < 2 ^ 32 → written n ≡ decimal n
-decimal_written n h =
-    decimal_by_steps (λ m ds. m < 2 ^ 32 → ds ≡ decimal m)
-    (λ m few k. sym (decimal-one m few))
-    (λ m ds many before k. ap (λ (l : List ℕ). l ++ (digit (m % 10) ∷ [])) (before (omega arith)) ∙ sym (decimal-more m many k))
-    n (omega arith) h
 
 pub length-decimal : (n : ℕ) → length (decimal n) ≤ 10
 length-decimal n = few 9 n
+
+pub length-one : (n : ℕ) → n < 10 → length (decimal n) ≡ 1
+length-one n h = rw (decimal-one n h)
+
+pub length_more : (n : ℕ) → 10 ≤ n → n < 2 ^ 32 → length (decimal n) ≡ length (decimal (n / 10)) + 1
+length_more n h k = rw (decimal-more n h k, length-append)
 
 pub length-spaced : (n : ℕ) → length (spaced n) ≤ 11
 length-spaced n = omega (arith, length-decimal n)

@@ -1,12 +1,13 @@
 -- Laws of the listing's lines.
 -- Assumes nothing.
-use Prim.Native.Nat.{ℕ, ◌*◌, ◌<◌, ◌≤◌}
+use Prim.Native.Nat.{ℕ, suc, ◌-◌, ◌*◌, ◌<◌, ◌≤◌}
 use mathlib.Core.Bool.{Bool, true, false, cond}
 use mathlib.Core.List.{List, [], ◌∷◌, ◌++◌, flat_map, append_assoc}
 use mathlib.Core.Path.{◌≡◌, refl, ap, sym, ◌∙◌}
 use native.Mathlib.Omega.{arith}
 use lib.Dec.{ltb}
-use lib.ListN.{length, take, length-take, length-append}
+use lib.ListN.{length, get_or, take, drop, length-take, length-append}
+use lib.Seq.{take_all}
 use Rattle.notes.specs.Reply.{given}
 use Rattle.notes.specs.Index.{servers}
 use Rattle.notes.specs.Message.{message_n, message_sender, brought, message_ok, filled}
@@ -26,6 +27,15 @@ line-room : (xs : List ℕ) → 1 ≤ length xs → length (line xs) ≤ 11 * le
 unfolding line
 line-room [] h = absurd (omega arith)
 line-room (x ∷ xs) h = simp length-append (omega (arith, length-decimal x, numbers-room xs))
+
+-- a line: the first number, and the others behind it
+pub line_of :
+    (xs : List ℕ)
+    → 1 ≤ length xs
+    → decimal (get_or xs 0 0) ++ flat_map spaced (take (length xs - 1) (drop 1 xs)) ++ text "\n" ≡ line xs
+unfolding line
+line_of [] h = absurd (omega arith)
+line_of (x ∷ xs) h = rw (take_all (suc (length xs) - 1) xs (omega arith))
 
 -- ---- a record's line, as it is stored: the first number, the five behind it, and T
 pub record_stored :

@@ -8,7 +8,7 @@ use native.Mathlib.Numerals.{unary_clauses}
 use native.Mathlib.Omega.{arith}
 use borrow.Author.Tests.{lt-ltb, le-ltb}
 use lib.Dec.{ltb}
-use lib.ListN.{length, get_or, length-append}
+use lib.ListN.{length, get_or, set, length-append}
 use lib.Seq.{length-sets}
 use denote.Param.Members.{Mut}
 use denote.Ref.{MutBor}
@@ -46,6 +46,10 @@ module _ {out : List ℕ} {at : ℕ} {a : List ℕ} {mid : ℕ} {between : List 
   -- the same text, said in another way
   pub same_text : {b : List ℕ} → a ≡ b → Stored out at a mid between → Stored out at b mid between
   same_text e p = record { ends = rw (← e) p.ends; bytes = rw (← e) p.bytes }
+
+-- a single byte
+pub one_byte : (out : List ℕ) (at x : ℕ) → Stored out at (x ∷ []) (at + 1) (set out at x)
+one_byte out at x = record { ends = refl; bytes = refl }
 
 -- nothing yet
 no_text : (out : List ℕ) (at : ℕ) → Stored out at [] at out

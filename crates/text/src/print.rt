@@ -3,7 +3,6 @@ ghost use Rattle.std.specs.Prelude.{◌+◌, ◌*◌, length};
 ghost use mathlib.Core.List.{flat_map};
 ghost use Rattle.text.specs.Text.{text, digits_most, decimal, spaced, HasRoom, Blank, Added};
 
-use itoa::Buffer;
 use notes::number;
 
 // The most digits that a number has.
@@ -41,13 +40,17 @@ impl<'a> Page<'a> {
         self.text(b"\n");
     }
 
-    // A number in decimal.
-    #[tactic(auto, using(crate::proofs::Decimals::decimal_written))]
+    // A number in decimal: its other digits, and the last behind them. The kit's itoa writes them too; by hand, the programs rest on no
+    // library but std. By `as`, since a u32 becomes a u8 by no `From`; a digit fits.
     pub(crate) fn number(&mut self, n: u32)
         requires { HasRoom self.old (length (decimal n)) }
         ensures { Added self.old (decimal n) self.new }
     {
-        self.text(Buffer::new().format(n).as_bytes());
+        if n < 10 {
+            return self.text(&[b'0' + n as u8]);
+        }
+        self.number(n / 10);
+        self.text(&[b'0' + (n % 10) as u8]);
     }
 
     // A space, and a number in decimal.

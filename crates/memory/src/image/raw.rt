@@ -24,7 +24,7 @@ pub struct Whole<'a> {
     ghost long: { image_size ≤ length bytes.now },
 }
 
-// And whose header is right, so that its records stand in it.
+// And whose counts fit, so that its records stand in it. `headed` makes one where the whole header is right.
 #[derive(Clone, Copy)]
 pub struct Headed<'a> {
     pub bytes: &'a [u8],

@@ -94,7 +94,7 @@ of-requires c = (limited (goal.at.of-requires c).In-Some).few
 pub history_ok-requires : goal.history_ok-requires
 history_ok-requires c =
     let d = (goal.at.history_ok-requires c).After-first_records-history in
-    (held d, c.of.ensures, fits d, rw c.of.ensures (sym c.in-Some-walk.ensures))
+    (held d, c.of.ensures, omega (arith, fits d), rw c.of.ensures (sym c.in-Some-walk.ensures))
 
 pub returns-then-not-history_ok : goal.returns-then-not-history_ok
 returns-then-not-history_ok c =
